@@ -1,0 +1,52 @@
+-- The bounds as a test and as facts are one, in both directions; the power-on states are within them.
+use mathlib.Core.Path.{_≡_, refl}
+use mathlib.Core.Bool.{Bool, true, false}
+use mathlib.Core.List.{List}
+use native.Mathlib.Omega.{arith}
+use Rattle.printer.specs.Tools.{both, Order, holds}
+use Rattle.printer.specs.PowerOn.{powerOn}
+use Rattle.printer.specs.Bounds.{settingsBounds, placeBounds, columnBounds, lineBounds, waitingBounds, ascending, accepted, Accepted, Typed}
+use Rattle.printer.specs.declared.settings.Setup.{Setup}
+use Rattle.printer.specs.declared.state.Printer.{Printer}
+use Rattle.printer.proofs.Choices.{both-left, both-right, both-true, holds-fact, fact-holds}
+
+pub fact-accepted : (p : Printer) → Accepted p → accepted p ≡ true
+unfolding accepted
+fact-accepted p h =
+    both-true _ _ (fact-holds (settingsBounds (p .settings)) (h .settings))
+    (both-true _ _ (fact-holds (placeBounds (p .settings) (p .place)) (h .place))
+    (both-true _ _ (fact-holds (columnBounds (p .stops)) (h .columns))
+    (both-true _ _ (fact-holds (lineBounds (p .stops)) (h .lines))
+    (fact-holds (waitingBounds (p .settings) (p .stops) (p .waiting)) (h .waiting)))))
+
+pub accepted-fact : (p : Printer) → accepted p ≡ true → Accepted p
+unfolding accepted
+accepted-fact p e =
+    let s : List Order = settingsBounds (p .settings) in
+    let x : List Order = placeBounds (p .settings) (p .place) in
+    let c : List Order = columnBounds (p .stops) in
+    let l : List Order = lineBounds (p .stops) in
+    let w : List Order = waitingBounds (p .settings) (p .stops) (p .waiting) in
+    let e₁ = both-right (holds s) (both (holds x) (both (holds c) (both (holds l) (holds w)))) e in
+    let e₂ = both-right (holds x) (both (holds c) (both (holds l) (holds w))) e₁ in
+    let e₃ = both-right (holds c) (both (holds l) (holds w)) e₂ in
+    record {
+      settings = holds-fact s (both-left (holds s) _ e);
+      place = holds-fact x (both-left (holds x) _ e₁);
+      columns = holds-fact c (both-left (holds c) _ e₂);
+      lines = holds-fact l (both-left (holds l) _ e₃);
+      waiting = holds-fact w (both-right (holds l) (holds w) e₃);
+    }
+
+pub power-on-accepted : (t : Setup) → Accepted (powerOn t)
+unfolding ascending
+power-on-accepted t =
+    record { settings = omega arith; place = omega arith; columns = omega arith; lines = omega arith; waiting = tt }
+
+pub power-on-typed : (t : Setup) → Typed (powerOn t)
+power-on-typed t =
+    record {
+      font = omega arith;
+      stops = record { columns = refl; lines = refl; newcolumns = refl; newlines = refl };
+      waiting = tt;
+    }

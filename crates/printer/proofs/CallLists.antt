@@ -1,0 +1,184 @@
+-- Demand 3, over every list of calls with what came back that begins with a start.
+use Prim.Native.Nat.{ℕ, zero, suc, _+_, _*_, _-_, _≤_}
+use mathlib.Core.Path.{_≡_, refl, ap, _∙_, sym}
+use mathlib.Core.Bool.{Bool, true, false}
+use mathlib.Core.List.{List, [], _∷_, _++_, map}
+use native.Mathlib.Omega.{arith}
+use lib.Dec.{ltb, eqb}
+use lib.ListN.{length, take}
+use borrow.Author.Tests.{eqb-true}
+use Rattle.printer.specs.Tools.{pick, Each, Bytes}
+use Rattle.printer.specs.Records.{recordSize, roomForByte, encodedAll, decodedAll, FitsBytes}
+use Rattle.printer.specs.Steps.{stateAfter, recordsOver, stepOf, stepRecords, eventsOver}
+use Rattle.printer.specs.PowerOn.{powerOn}
+use Rattle.printer.specs.Calls
+use Rattle.printer.specs.Calls.{numberOf, setup, startOf, Run, stopped, afterByte, runOf, callOf, readingOf, outputOf, countsOf, StartPromise, ReadPromise, LentPromise}
+use Rattle.printer.specs.Reckoning.{origin, begun, Reckoning, Axis, event, printed}
+use Rattle.printer.specs.Demand3
+use Rattle.printer.specs.Demand3.{StartCall, ReadCall, Manner, byValue, lent, Call, started, read, ReadingPromise, readingBack, Chain, bytesOf, rulesAfter, occurrences, OwnCall, Own, NotFour, writtenBy, joined, shown, dotted, Between, printedOver, Demand3}
+use Rattle.printer.specs.declared.answers.Answer.{Answer}
+use Rattle.printer.specs.declared.answers.Counts.{Counts}
+use Rattle.printer.specs.declared.answers.Reading.{Reading}
+use Rattle.printer.specs.declared.answers.Started.{Started}
+use Rattle.printer.specs.declared.records.Record.{Record}
+use Rattle.printer.specs.declared.settings.Setup.{Setup}
+use Rattle.printer.specs.declared.state.Printer.{Printer}
+use Rattle.printer.specs.declared.units.Resolution.{Resolution}
+use Rattle.printer.proofs.Choices.{pick-elim, each-append, bytes-take}
+use Rattle.printer.proofs.Accepting.{fact-accepted}
+use Rattle.printer.proofs.Keeping.{Ours, steps-ours, power-on-ours}
+use Rattle.printer.proofs.Writing.{steps-fit}
+use Rattle.printer.proofs.Bytes.{decodedAll-encoded, encodedAll-append}
+use Rattle.printer.proofs.Cuts.{call-steps, call-writes}
+use Rattle.printer.proofs.Following.{from}
+use Rattle.printer.proofs.Claims.{Claim, nothing, Keeps, bytes-then}
+
+-- The start
+
+-- a start leaves a state of ours, waiting for nothing, at which the reckoning begins
+record Begins (resolution : ℕ) (s : Started) : Type 0 where
+  keeps : Keeps (s .printer) 0 origin origin
+  begins : begun resolution ≡ from (s .printer) 0 origin origin
+  number : numberOf (s .answer) ≤ 3
+
+start-begins : (resolution : ℕ) (autofeed : Bool) → Begins resolution (startOf resolution autofeed)
+unfolding startOf
+start-begins resolution autofeed =
+    pick-elim (Begins resolution) (eqb resolution 300)
+    (λ e. record {
+      keeps = keeps (setup Resolution.Dots300 autofeed);
+      begins = rw (eqb-true resolution 300 e);
+      number = omega arith;
+    })
+    (λ _. go (eqb resolution 203) refl)
+  where
+    keeps : (t : Setup) → Keeps (powerOn t) 0 origin origin
+    keeps t = record { ours = power-on-ours t; across = refl; down = refl; step = tt }
+
+    go : (t : Bool) → eqb resolution 203 ≡ t
+        → Begins resolution (pick t (Calls.started Answer.InputUsed (setup Resolution.Dots203 autofeed)) (Calls.started Answer.SettingsRefused (setup Resolution.Dots300 false)))
+    go true e = record { keeps = keeps (setup Resolution.Dots203 autofeed); begins = rw e; number = omega arith }
+    go false e = record { keeps = keeps (setup Resolution.Dots300 false); begins = rw e; number = omega arith }
+
+-- Reading calls
+
+run-number : (p : Printer) (input : List ℕ) (allowance room : ℕ) → numberOf (runOf p input allowance room .answer) ≤ 3
+unfolding runOf
+run-number p [] allowance room = omega arith
+run-number p (b ∷ l) zero room = omega arith
+run-number p (b ∷ l) (suc allowance) room =
+    pick-elim (λ (v : Run). numberOf (v .answer) ≤ 3) (ltb room roomForByte) (λ _. omega arith)
+    (λ _. run-number (stepOf p b) l allowance (room - recordSize * length (stepRecords p b)))
+
+-- a state of ours is not refused
+call-number : (p : Printer) (input : List ℕ) (allowance room : ℕ) → Ours p → numberOf (callOf p input allowance room .answer) ≤ 3
+unfolding callOf
+call-number p input allowance room o = rw (fact-accepted p (o .accepted)) (run-number p input allowance room)
+
+-- either promise says the same of what came back
+own-promise : (m : Manner) (c : ReadCall) → ReadingPromise m c
+    → (c .back ≡ countsOf (readingOf (c .state) (c .input) (c .allowance) (length (c .out))))
+    × (c .left ≡ readingOf (c .state) (c .input) (c .allowance) (length (c .out)) .printer)
+    × (c .after ≡ outputOf (c .state) (c .input) (c .allowance) (c .out))
+own-promise byValue c h = (ap countsOf (h .gives), ap (λ (r : Reading). r .printer) (h .gives), h .output)
+own-promise lent c h = (h .gives, h .state, h .output)
+
+own-call : (p : Printer) (m : Manner) (c : ReadCall) → c .state ≡ p → ReadingPromise m c → OwnCall p (read m c)
+own-call p m c e h =
+    let q = own-promise m c h in
+    let back : c .back ≡ countsOf (readingOf p (c .input) (c .allowance) (length (c .out))) = rw e at (q .0) in
+    let left : c .left ≡ readingOf p (c .input) (c .allowance) (length (c .out)) .printer = rw e at (q .1) in
+    let steps = call-steps p (c .input) (c .allowance) (length (c .out)) in
+    let read : c .back .read ≡ readingOf p (c .input) (c .allowance) (length (c .out)) .read = ap (λ (n : Counts). n .read) back in
+    (e, back, rw read (left ∙ steps .state), rw e at (q .2))
+
+-- what a call wrote is the bytes of the rules' records
+own-written : (p : Printer) (m : Manner) (c : ReadCall) → OwnCall p (read m c) → writtenBy (read m c) ≡ encodedAll (recordsOver p (bytesOf c))
+own-written p m c h = rw (h .1, h .3) (call-writes p (c .input) (c .allowance) (c .out))
+
+-- Lists of calls
+
+-- the rules' records over a list of calls
+recordsIn : Printer → List Call → List Record
+recordsIn p [] = []
+recordsIn p (started c ∷ l) = recordsIn (rulesAfter p (started c)) l
+recordsIn p (read m c ∷ l) = recordsOver p (bytesOf c) ++ recordsIn (rulesAfter p (read m c)) l
+
+own-list : (p : Printer) (l : List Call) → Chain p l → Own p l
+own-list p [] h = tt
+own-list p (started c ∷ l) h =
+    let e : c .back ≡ startOf (c .resolution) (c .autofeed) = h .0 .gives in
+    (e, own-list (rulesAfter p (started c)) l (rw e at (h .1)))
+own-list p (read m c ∷ l) h =
+    let o = own-call p m c (h .0 .0) (h .0 .2) in
+    (o, own-list (rulesAfter p (read m c)) l (rw (o .2) at (h .1)))
+
+-- the input of each reading call is bytes
+BytesIn : List Call → Type 0
+BytesIn [] = Unit
+BytesIn (started c ∷ l) = BytesIn l
+BytesIn (read m c ∷ l) = Bytes (c .input) × BytesIn l
+
+bytes-in : (p : Printer) (l : List Call) → Chain p l → BytesIn l
+unfolding BytesIn
+bytes-in p [] h = tt
+bytes-in p (started c ∷ l) h = bytes-in (c .back .printer) l (h .1)
+bytes-in p (read m c ∷ l) h = (h .0 .1, bytes-in (c .left) l (h .1))
+
+start-ours : (resolution : ℕ) (autofeed : Bool) → Ours (startOf resolution autofeed .printer)
+start-ours resolution autofeed = start-begins resolution autofeed .keeps .ours
+
+not-four : (p : Printer) (l : List Call) → BytesIn l → Own p l → Ours p → Each NotFour l
+unfolding BytesIn
+not-four p [] m h o = tt
+not-four p (started c ∷ l) m h o = (
+  rw (h .0) (start-begins (c .resolution) (c .autofeed) .number),
+  not-four (rulesAfter p (started c)) l m (h .1) (start-ours (c .resolution) (c .autofeed)),
+)
+not-four p (read n c ∷ l) m h o = (
+  rw (h .0 .1) (call-number p (c .input) (c .allowance) (length (c .out)) o),
+  not-four (rulesAfter p (read n c)) l (m .1) (h .1) (steps-ours p (bytesOf c) (bytes-take (c .back .read) (c .input) (m .0)) o),
+)
+
+joined-records : (p : Printer) (l : List Call) → Own p l → joined l ≡ encodedAll (recordsIn p l)
+unfolding joined recordsIn encodedAll
+joined-records p [] h = refl
+joined-records p (started c ∷ l) h = joined-records (rulesAfter p (started c)) l (h .1)
+joined-records p (read m c ∷ l) h =
+    rw (own-written p m c (h .0), joined-records (rulesAfter p (read m c)) l (h .1), encodedAll-append (recordsOver p (bytesOf c)) (recordsIn (rulesAfter p (read m c)) l))
+
+records-fit : (p : Printer) (l : List Call) → BytesIn l → Ours p → Each FitsBytes (recordsIn p l)
+unfolding recordsIn BytesIn
+records-fit p [] m o = tt
+records-fit p (started c ∷ l) m o = records-fit (rulesAfter p (started c)) l m (start-ours (c .resolution) (c .autofeed))
+records-fit p (read n c ∷ l) m o =
+    let b = bytes-take (c .back .read) (c .input) (m .0) in
+    each-append FitsBytes (recordsOver p (bytesOf c)) (recordsIn (rulesAfter p (read n c)) l) (steps-fit p (bytesOf c) b o)
+    (records-fit (rulesAfter p (read n c)) l (m .1) (steps-ours p (bytesOf c) b o))
+
+calls-claim : (p : Printer) (n : ℕ) (k j : Axis) (l : List Call) → BytesIn l → Keeps p n k j
+    → Claim (recordsIn p l) (printed (from p n k j) (occurrences p l))
+unfolding recordsIn BytesIn occurrences printed
+calls-claim p n k j [] m h = nothing
+calls-claim p n k j (started c ∷ l) m h =
+    let b = start-begins (c .resolution) (c .autofeed) in
+    rw (b .begins) (calls-claim (rulesAfter p (started c)) 0 origin origin l m (b .keeps))
+calls-claim p n k j (read i c ∷ l) m h =
+    bytes-then p n k j (bytesOf c) (recordsIn (rulesAfter p (read i c)) l) (occurrences (rulesAfter p (read i c)) l)
+    (bytes-take (c .back .read) (c .input) (m .0)) h
+    (λ n′ k′ j′ g. calls-claim (rulesAfter p (read i c)) n′ k′ j′ l (m .1) g)
+
+pub demand-3 : (before : Printer) (c : StartCall) (l : List Call) → Chain before (started c ∷ l) → Demand3 before (started c ∷ l)
+unfolding recordsIn BytesIn occurrences printed
+demand-3 p c l h =
+    let q : Printer = rulesAfter p (started c) in
+    let b = start-begins (c .resolution) (c .autofeed) in
+    let m = bytes-in p (started c ∷ l) h in
+    let o = own-list p (started c ∷ l) h in
+    let w = calls-claim q 0 origin origin l m (b .keeps) in
+    record {
+      own = o;
+      noFour = (rw (o .0) (b .number), not-four q l m (o .1) (b .keeps .ours));
+      same = rw (joined-records p (started c ∷ l) o, decodedAll-encoded (recordsIn q l) (records-fit q l m (b .keeps .ours)), b .begins) (w .same);
+      between = rw (b .begins) (w .between);
+    }

@@ -1,0 +1,136 @@
+-- Demand 2, cutting: calls leave the state and the records of the rules' steps over the bytes that they read.
+use Prim.Native.Nat.{ℕ, zero, suc, _+_, _*_, _-_, _≤_, _<_}
+use mathlib.Core.Path.{_≡_, refl, ap, _∙_, sym}
+use mathlib.Core.Bool.{Bool, true, false}
+use mathlib.Core.List.{List, [], _∷_, _++_, append-assoc}
+use native.Mathlib.Omega.{arith}
+use lib.Dec.{ltb}
+use lib.ListN.{length, take}
+use borrow.Author.Tests.{ltb-true, le-ltb}
+use Rattle.printer.specs.Tools.{pick}
+use Rattle.printer.specs.Records.{recordSize, roomForByte, encodedAll}
+use Rattle.printer.specs.Bounds.{accepted}
+use Rattle.printer.specs.Steps.{stepOf, stepRecords, stateAfter, recordsOver}
+use Rattle.printer.specs.Calls.{Run, stopped, afterByte, runOf, callOf, readingOf, outputOf}
+use Rattle.printer.specs.Cutting.{Piece, answerTo, joinedInput, lastState, joinedOutput, bytesRead, ReadToEnd}
+use Rattle.printer.specs.declared.answers.Answer.{Answer}
+use Rattle.printer.specs.declared.records.Record.{Record}
+use Rattle.printer.specs.declared.state.Printer.{Printer}
+use Rattle.printer.proofs.Choices.{pick-elim}
+use Rattle.printer.proofs.Bytes.{encodedAll-append, written-part}
+use Rattle.printer.proofs.Few.{two-records}
+
+-- a run's state and records are the rules' steps over the bytes that it read
+pub record Steps (p : Printer) (input : List ℕ) (v : Run) : Type 0 where
+  pub state : v .printer ≡ stateAfter p (take (v .read) input)
+  pub records : v .records ≡ recordsOver p (take (v .read) input)
+
+no-steps : (p : Printer) (input : List ℕ) (a : Answer) → Steps p input (stopped a p)
+unfolding stateAfter recordsOver
+no-steps p [] a = record { state = refl; records = refl }
+no-steps p (b ∷ l) a = record { state = refl; records = refl }
+
+one-step : (p : Printer) (b : ℕ) (l : List ℕ) (v : Run) → Steps (stepOf p b) l v → Steps p (b ∷ l) (afterByte (stepRecords p b) v)
+unfolding stateAfter recordsOver
+one-step p b l v h =
+    record { state = h .state; records = ap (λ (r : List Record). stepRecords p b ++ r) (h .records) }
+
+run-steps : (p : Printer) (input : List ℕ) (allowance room : ℕ) → Steps p input (runOf p input allowance room)
+unfolding runOf
+run-steps p [] allowance room = no-steps p [] Answer.InputUsed
+run-steps p (b ∷ l) zero room = no-steps p (b ∷ l) Answer.AllowanceUsed
+run-steps p (b ∷ l) (suc allowance) room =
+    pick-elim (Steps p (b ∷ l)) (ltb room roomForByte)
+    {x = stopped Answer.OutputFull p}
+    {y = afterByte (stepRecords p b) (runOf (stepOf p b) l allowance (room - recordSize * length (stepRecords p b)))}
+    (λ _. no-steps p (b ∷ l) Answer.OutputFull)
+    (λ _. one-step p b l _ (run-steps (stepOf p b) l allowance (room - recordSize * length (stepRecords p b))))
+
+pub call-steps : (p : Printer) (input : List ℕ) (allowance room : ℕ) → Steps p input (callOf p input allowance room)
+unfolding callOf
+call-steps p input allowance room =
+    pick-elim (Steps p input) (accepted p) {x = runOf p input allowance room} {y = stopped Answer.StateRefused p}
+    (λ _. run-steps p input allowance room)
+    (λ _. no-steps p input Answer.StateRefused)
+
+-- the bytes that a call writes
+pub call-writes : (p : Printer) (input : List ℕ) (allowance : ℕ) (out : List ℕ)
+    → take (readingOf p input allowance (length out) .written) (outputOf p input allowance out)
+    ≡ encodedAll (recordsOver p (take (readingOf p input allowance (length out) .read) input))
+call-writes p input allowance out =
+    written-part (callOf p input allowance (length out) .records) _
+    ∙ ap encodedAll (call-steps p input allowance (length out) .records)
+
+-- Over an input in two parts
+
+pub state-append : (p : Printer) (x y : List ℕ) → stateAfter p (x ++ y) ≡ stateAfter (stateAfter p x) y
+unfolding stateAfter
+state-append p [] y = refl
+state-append p (b ∷ x) y = state-append (stepOf p b) x y
+
+pub records-append : (p : Printer) (x y : List ℕ) → recordsOver p (x ++ y) ≡ recordsOver p x ++ recordsOver (stateAfter p x) y
+unfolding stateAfter recordsOver
+records-append p [] y = refl
+records-append p (b ∷ x) y = rw (records-append (stepOf p b) x y, append-assoc)
+
+-- Pieces, wherever each call stops
+
+pub pieces-state : (p : Printer) (l : List Piece) → lastState p l ≡ stateAfter p (bytesRead p l)
+unfolding lastState bytesRead stateAfter
+pieces-state p [] = refl
+pieces-state p (c ∷ l) =
+    let v = answerTo p c in
+    let h = call-steps p (c .bytes) (c .allowance) (length (c .out)) in
+    cc (h .state, pieces-state (v .printer) l, state-append p (take (v .read) (c .bytes)) (bytesRead (v .printer) l))
+
+pub pieces-output : (p : Printer) (l : List Piece) → joinedOutput p l ≡ encodedAll (recordsOver p (bytesRead p l))
+unfolding joinedOutput bytesRead recordsOver encodedAll
+pieces-output p [] = refl
+pieces-output p (c ∷ l) =
+    let v = answerTo p c in
+    let h = call-steps p (c .bytes) (c .allowance) (length (c .out)) in
+    let x : List ℕ = take (v .read) (c .bytes) in
+    let y : List ℕ = bytesRead (v .printer) l in
+    cc (h .state, call-writes p (c .bytes) (c .allowance) (c .out), pieces-output (v .printer) l, records-append p x y, encodedAll-append (recordsOver p x) (recordsOver (stateAfter p x) y))
+
+-- Pieces read to their ends
+
+run-end : (p : Printer) (input : List ℕ) (allowance room : ℕ) → runOf p input allowance room .answer ≡ Answer.InputUsed
+    → take (runOf p input allowance room .read) input ≡ input
+unfolding runOf
+run-end p [] allowance room = λ e. refl
+run-end p (b ∷ l) zero room = λ e. let z : _≡_ {A = ℕ} 0 1 = cc in absurd (omega arith)
+run-end p (b ∷ l) (suc allowance) room =
+    pick-elim (λ (v : Run). v .answer ≡ Answer.InputUsed → take (v .read) (b ∷ l) ≡ b ∷ l) (ltb room roomForByte)
+    (λ _. λ e. let z : _≡_ {A = ℕ} 0 1 = cc in absurd (omega arith))
+    (λ _. λ e. ap (λ (r : List ℕ). b ∷ r) (run-end (stepOf p b) l allowance (room - recordSize * length (stepRecords p b)) e))
+
+call-end : (p : Printer) (input : List ℕ) (allowance room : ℕ) → callOf p input allowance room .answer ≡ Answer.InputUsed
+    → take (callOf p input allowance room .read) input ≡ input
+unfolding callOf
+call-end p input allowance room =
+    pick-elim (λ (v : Run). v .answer ≡ Answer.InputUsed → take (v .read) input ≡ input) (accepted p)
+    (λ _. run-end p input allowance room)
+    (λ _. λ e. let z : _≡_ {A = ℕ} 0 1 = cc in absurd (omega arith))
+
+pub read-to-end : (p : Printer) (l : List Piece) → ReadToEnd p l → bytesRead p l ≡ joinedInput l
+unfolding bytesRead joinedInput
+read-to-end p [] h = refl
+read-to-end p (c ∷ l) h =
+    cc (call-end p (c .bytes) (c .allowance) (length (c .out)) (h .0), read-to-end (answerTo p c .printer) l (h .1))
+
+-- with allowance and room enough, a call on an accepted state reads to its end
+run-reads : (p : Printer) (input : List ℕ) (allowance room : ℕ) → length input ≤ allowance → roomForByte * length input ≤ room
+    → runOf p input allowance room .answer ≡ Answer.InputUsed
+unfolding runOf
+run-reads p [] allowance room h k = refl
+run-reads p (b ∷ l) zero room h k = absurd (omega arith)
+run-reads p (b ∷ l) (suc allowance) room h k =
+    rw (le-ltb room roomForByte (omega arith))
+    (run-reads (stepOf p b) l allowance (room - recordSize * length (stepRecords p b)) (omega arith) (omega (arith, two-records p b)))
+
+pub enough-reads : (p : Printer) (input : List ℕ) (allowance : ℕ) (out : List ℕ) → accepted p ≡ true
+    → length input ≤ allowance → roomForByte * length input ≤ length out
+    → readingOf p input allowance (length out) .answer ≡ Answer.InputUsed
+unfolding callOf
+enough-reads p input allowance out e h k = rw e (run-reads p input allowance (length out) h k)

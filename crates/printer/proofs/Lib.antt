@@ -1,0 +1,15 @@
+pub mod CodeLaws
+pub mod Choices
+pub mod Accepting
+pub mod Spelling
+pub mod StopLists
+pub mod Legal
+pub mod Keeping
+pub mod Bytes
+pub mod Writing
+pub mod Few
+pub mod Cuts
+pub mod Following
+pub mod Claims
+pub mod CallLists
+pub mod ByHand

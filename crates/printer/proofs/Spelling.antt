@@ -1,0 +1,339 @@
+-- The commands that the steps report spell the bytes that were read, and a single byte is taken for what it is.
+use Prim.Native.Nat.{ℕ, _+_, _-_, _≤_, _<_}
+use mathlib.Core.Path.{_≡_, refl, ap, sym, _∙_}
+use mathlib.Core.Bool.{Bool, true, false}
+use mathlib.Core.List.{List, [], _∷_, _++_, map, append-assoc, append-nil}
+use mathlib.Core.Logic.{_⊎_, inl, inr}
+use native.Mathlib.Omega.{arith}
+use lib.Dec.{leb, eqb, ltb}
+use borrow.Author.Tests.{eqb-true, leb-false, leb-true}
+use Rattle.printer.specs.Tools.{pick, both, either, within, lookup, holds, Each}
+use Rattle.printer.specs.Codes.{controlCode, modeCode, oneCode, twoCode, listCode}
+use Rattle.printer.specs.Framing.{isLetter, readAs, firsts, seconds, firstOf, secondOf, oneCommand, twoCommand, afterTwo, imageWait, firstFrame, secondFrame, listFrame, frame}
+use Rattle.printer.specs.Performing.{Event, done, passed, inside, automatic, perform, performAll}
+use Rattle.printer.specs.Deciding.{attempt, ranged, letterEvents, feedAfterReturn, Stop, found, missing, columnFrom, tabEvent, lineFrom, verticalEvents, vertical, controlEvents, inRange, decide, pagesOfLine, needsAt}
+use Rattle.printer.specs.Settings.{acrossOf, leftOf, edgeOf, downOf, columnsOf, linesOf}
+use Rattle.printer.specs.Steps.{frameAt, eventsIn, nextIn, stepEvents, stepOf, stateAfter, eventsOver}
+use Rattle.printer.specs.Spelling.{spelt, pending, StandsFor, Genuine, speltBy, speltAll, GenuineEvent}
+use Rattle.printer.specs.declared.commands.Command.{Command}
+use Rattle.printer.specs.declared.commands.Control.{Control}
+use Rattle.printer.specs.declared.commands.Density.{Density}
+use Rattle.printer.specs.declared.commands.First.{First}
+use Rattle.printer.specs.declared.commands.Frame.{Frame}
+use Rattle.printer.specs.declared.commands.One.{One}
+use Rattle.printer.specs.declared.commands.Second.{Second}
+use Rattle.printer.specs.declared.commands.Tabs.{Tabs}
+use Rattle.printer.specs.declared.commands.Two.{Two}
+use Rattle.printer.specs.declared.commands.Waiting.{Waiting}
+use Rattle.printer.specs.declared.state.Printer.{Printer}
+use Rattle.printer.proofs.Choices.{pick-elim, both-left, both-right, either-elim, either-left, either-right, within-fact, each-append, each-map}
+
+-- a table's rule: two functions that agree on every entry, by a computed test, agree on what stands beside b
+pub lookup-agrees : {A : Type 0} (f g : ℕ → A → List ℕ) (l : List (ℕ × A)) (d : A) (b : ℕ)
+    → map (λ (e : ℕ × A). f (e .0) (e .1)) l ≡ map (λ (e : ℕ × A). g (e .0) (e .1)) l → f b d ≡ g b d
+    → f b (lookup l d b) ≡ g b (lookup l d b)
+unfolding lookup
+lookup-agrees f g [] d b h k = k
+lookup-agrees {A} f g (e ∷ l) d b h k =
+    pick-elim (λ (x : A). f b x ≡ g b x) (eqb b (e .0))
+    (λ t. rw (eqb-true b (e .0) t) (heads h))
+    (λ _. lookup-agrees f g l d b (tails h) k)
+  where
+    heads : {B : Type 0} {x y : B} {xs ys : List B} → x ∷ xs ≡ y ∷ ys → x ≡ y
+    heads h = cc
+
+    tails : {B : Type 0} {x y : B} {xs ys : List B} → x ∷ xs ≡ y ∷ ys → xs ≡ ys
+    tails h = cc
+
+-- One byte
+
+-- the bytes of a frame: its command's, and those of what it leaves waited for
+abbrev pub speltIn : Frame → List ℕ
+speltIn (Frame.Waits w) = pending w
+speltIn (Frame.Whole c w) = spelt c ++ pending w
+
+image-pending : (d : Density) (n : ℕ) → pending (imageWait d n) ≡ []
+image-pending d n = pick-elim (λ (w : Waiting). pending w ≡ []) (eqb n 0) (λ _. refl) (λ _. refl)
+
+first-spells : (f : First) (b : ℕ) → speltIn (firstFrame f b) ≡ b ∷ []
+first-spells (First.Control c) b = refl
+first-spells First.Escape b = refl
+first-spells First.Unlisted b = refl
+
+-- what an escape's second byte is has that byte for its code
+second-spells : (b : ℕ) → speltIn (secondFrame (secondOf b) b) ≡ b ∷ []
+unfolding seconds
+second-spells b =
+    lookup-agrees (λ (n : ℕ) (s : Second). speltIn (secondFrame s n)) (λ (n : ℕ) (s : Second). n ∷ []) seconds Second.Unlisted b
+    refl refl
+
+one-spells : (c : One) (n : ℕ) → spelt (oneCommand c n) ++ [] ≡ oneCode c ∷ n ∷ []
+one-spells (One.Parameter c) n = refl
+one-spells One.Feed n = refl
+one-spells One.LeftMargin n = refl
+one-spells One.RightMargin n = refl
+
+two-spells : (c : Two) (a b n : ℕ) → spelt (twoCommand c a b) ++ pending (afterTwo c n) ≡ twoCode c ∷ a ∷ b ∷ []
+two-spells Two.Absolute a b n = refl
+two-spells Two.Relative a b n = refl
+two-spells (Two.Image d) a b n = rw (image-pending d n)
+
+pub frame-spells : (upper : Bool) (w : Waiting) (b : ℕ) → speltIn (frame upper w b) ≡ pending w ++ (b ∷ [])
+unfolding frame
+frame-spells upper Waiting.Nothing b =
+    pick-elim (λ (f : Frame). speltIn f ≡ b ∷ []) (isLetter upper b) (λ _. refl)
+    (λ _. first-spells (firstOf (readAs upper b)) b)
+frame-spells upper Waiting.SecondByte b = second-spells b
+frame-spells upper (Waiting.Argument c) b = one-spells c b
+frame-spells upper Waiting.PageLength b =
+    pick-elim (λ (f : Frame). speltIn f ≡ 0x43 ∷ b ∷ []) (eqb b 0) (λ e. rw (eqb-true b 0 e)) (λ _. refl)
+frame-spells upper Waiting.PageInches b = refl
+frame-spells upper (Waiting.FirstOf c) b = refl
+frame-spells upper (Waiting.SecondOf c a) b = two-spells c a b _
+frame-spells upper (Waiting.StopList t before) b =
+    pick-elim (λ (f : Frame). speltIn f ≡ b ∷ []) (leb b before) (λ _. refl) (λ _. refl)
+frame-spells upper (Waiting.ImageData d n) b = rw (image-pending d (n - 1))
+
+-- each single byte is taken for what it is
+
+abbrev GenuineIn : Frame → Type 0
+GenuineIn (Frame.Waits w) = Unit
+GenuineIn (Frame.Whole c w) = Genuine c
+
+-- the code that a listed control is found by
+abbrev firstCode : First → ℕ → ℕ
+firstCode (First.Control c) n = controlCode c
+firstCode First.Escape n = 0x1B
+firstCode First.Unlisted n = n
+
+first-code : (n : ℕ) → firstCode (firstOf n) n ∷ [] ≡ n ∷ []
+unfolding firsts
+first-code n =
+    lookup-agrees (λ (k : ℕ) (f : First). firstCode f k ∷ []) (λ (k : ℕ) (f : First). k ∷ []) firsts First.Unlisted n refl refl
+
+-- a byte that is no letter
+no-letter : (upper : Bool) (b : ℕ) → isLetter upper b ≡ false → (b ≤ 0x1F) ⊎ ((0x7F ≤ b) × (b ≤ 0x9F))
+unfolding isLetter
+no-letter upper b e = go (leb 0x20 b) refl (either-left (within 0x20 0x7E b) _ e)
+  where
+    below : b < 0xA0
+    below = leb-false _ _ (either-left (leb 0xA0 b) _ (either-right (within 0x20 0x7E b) _ e))
+
+    go : (t : Bool) → leb 0x20 b ≡ t → both t (leb b 0x7E) ≡ false → (b ≤ 0x1F) ⊎ ((0x7F ≤ b) × (b ≤ 0x9F))
+    go true k h = let above : 0x7E < b = leb-false _ _ h in let l = below in inr (omega arith)
+    go false k h = let under : b < 0x20 = leb-false _ _ k in inl (omega arith)
+
+a-letter : (upper : Bool) (b : ℕ) → isLetter upper b ≡ true → (0x20 ≤ b) × (b ≡ 0x7F → ⊥)
+unfolding isLetter
+a-letter upper b e =
+    either-elim _ (within 0x20 0x7E b) _ e
+    (λ h. let k = within-fact 0x20 0x7E b h in omega arith)
+    (λ h. either-elim _ (leb 0xA0 b) _ h
+    (λ k. let l : 0xA0 ≤ b = leb-true _ _ k in omega arith)
+    (λ k. let l = within-fact 0x80 0x9F b (both-right upper _ k) in omega arith))
+
+read-as : (upper : Bool) (b : ℕ) → StandsFor b (readAs upper b)
+unfolding readAs
+read-as upper b =
+    pick-elim (StandsFor b) (both (pick upper false true) (within 0x80 0x9F b))
+    (λ e. let k = within-fact 0x80 0x9F b (both-right (pick upper false true) _ e) in inr (omega arith))
+    (λ _. inl refl)
+
+first-genuine : (f : First) (n b : ℕ) → firstCode f n ∷ [] ≡ n ∷ [] → StandsFor b n
+    → (b ≤ 0x1F) ⊎ ((0x7F ≤ b) × (b ≤ 0x9F)) → GenuineIn (firstFrame f b)
+first-genuine (First.Control c) n b e s h = let k : controlCode c ≡ n = cc in rw k s
+first-genuine First.Escape n b e s h = let k : n ≡ 0x1B = cc in rw k at s
+first-genuine First.Unlisted n b e s h = h
+
+second-genuine : (s : Second) (b : ℕ) → GenuineIn (secondFrame s b)
+second-genuine Second.Reset b = tt
+second-genuine (Second.Mode c) b = tt
+second-genuine (Second.One c) b = tt
+second-genuine Second.Page b = tt
+second-genuine (Second.Two c) b = tt
+second-genuine (Second.List t) b = tt
+second-genuine Second.Unlisted b = tt
+
+one-genuine : (c : One) (n : ℕ) → Genuine (oneCommand c n)
+one-genuine (One.Parameter c) n = tt
+one-genuine One.Feed n = tt
+one-genuine One.LeftMargin n = tt
+one-genuine One.RightMargin n = tt
+
+two-genuine : (c : Two) (a b : ℕ) → Genuine (twoCommand c a b)
+two-genuine Two.Absolute a b = tt
+two-genuine Two.Relative a b = tt
+two-genuine (Two.Image d) a b = tt
+
+pub frame-genuine : (upper : Bool) (w : Waiting) (b : ℕ) → GenuineIn (frame upper w b)
+unfolding frame
+frame-genuine upper Waiting.Nothing b =
+    pick-elim GenuineIn (isLetter upper b) (λ e. a-letter upper b e)
+    (λ e. first-genuine (firstOf (readAs upper b)) (readAs upper b) b (first-code (readAs upper b)) (read-as upper b) (no-letter upper b e))
+frame-genuine upper Waiting.SecondByte b = second-genuine (secondOf b) b
+frame-genuine upper (Waiting.Argument c) b = one-genuine c b
+frame-genuine upper Waiting.PageLength b = pick-elim GenuineIn (eqb b 0) (λ _. tt) (λ _. tt)
+frame-genuine upper Waiting.PageInches b = tt
+frame-genuine upper (Waiting.FirstOf c) b = tt
+frame-genuine upper (Waiting.SecondOf c a) b = two-genuine c a b
+frame-genuine upper (Waiting.StopList t before) b = pick-elim GenuineIn (leb b before) (λ _. tt) (λ _. tt)
+frame-genuine upper (Waiting.ImageData d n) b = tt
+
+-- The events of a command are that command's
+
+-- an event of a command: that command, or one performed inside it
+abbrev pub EventOf : Command → Event → Type 0
+EventOf c (done x told) = x ≡ c
+EventOf c (passed x reason) = x ≡ c
+EventOf c (inside x told) = Unit
+EventOf c (automatic told) = Unit
+
+pub record OfCommand (c : Command) (l : List Event) : Type 0 where
+  pub spells : speltAll l ≡ spelt c
+  pub own : Each (EventOf c) l
+
+of-done : (c : Command) (told : ℕ) → OfCommand c (done c told ∷ [])
+unfolding speltAll
+of-done c told = record { spells = append-nil (spelt c); own = (refl, tt) }
+
+of-passed : (c : Command) (reason : ℕ) → OfCommand c (passed c reason ∷ [])
+unfolding speltAll
+of-passed c reason = record { spells = append-nil (spelt c); own = (refl, tt) }
+
+of-attempt : (p : Printer) (c : Command) (reason : ℕ) → OfCommand c (attempt p c reason ∷ [])
+unfolding attempt
+of-attempt p c reason =
+    pick-elim (λ (e : Event). OfCommand c (e ∷ [])) (holds (needsAt p c 0)) (λ _. of-done c 0) (λ _. of-passed c reason)
+
+of-ranged : (fits : Bool) (c : Command) (e : Event) → OfCommand c (e ∷ []) → OfCommand c (ranged fits c e ∷ [])
+unfolding ranged
+of-ranged fits c e h = pick-elim (λ (x : Event). OfCommand c (x ∷ [])) fits (λ _. h) (λ _. of-passed c 2)
+
+-- what is performed inside a command
+record Silent (c : Command) (l : List Event) : Type 0 where
+  spells : speltAll l ≡ []
+  own : Each (EventOf c) l
+
+-- an event inside the command, before or after
+of-before : (c : Command) (e : Event) (l : List Event) → speltBy e ≡ [] → EventOf c e → OfCommand c l → OfCommand c (e ∷ l)
+unfolding speltAll
+of-before c e l h g o = record { spells = rw h (o .spells); own = (g, o .own) }
+
+of-after : (c : Command) (e : Event) (l : List Event) → OfCommand c (e ∷ []) → Silent c l → OfCommand c (e ∷ l)
+unfolding speltAll
+of-after c e l o h = record { spells = rw (h .spells) (o .spells); own = (o .own .0, h .own) }
+
+of-letter : (p : Printer) (b : ℕ) → OfCommand (Command.Letter b) (letterEvents p b)
+unfolding letterEvents
+of-letter p b =
+    pick-elim (OfCommand (Command.Letter b)) (holds (needsAt p (Command.Letter b) 0)) (λ _. of-done _ 0)
+    (λ _. pick-elim (OfCommand (Command.Letter b)) (eqb (acrossOf (p .place)) (leftOf (p .settings))) (λ _. of-passed _ 4)
+    (λ _. of-before _ _ _ refl tt (of-attempt _ _ 4)))
+
+silent-feed : (c : Command) (p : Printer) → Silent c (feedAfterReturn p)
+unfolding feedAfterReturn speltAll
+silent-feed c p =
+    pick-elim (Silent c) (p .settings .setup .autofeed) (λ _. record { spells = refl; own = (tt, tt) })
+    (λ _. record { spells = refl; own = tt })
+
+of-tab : (c : Command) (x : Stop) → OfCommand c (tabEvent c x ∷ [])
+of-tab c (found k n) = of-done c k
+of-tab c missing = of-passed c 5
+
+of-inside : (c : Command) (x : Control) (told : ℕ) (l : List Event) → Silent c l → OfCommand c (done c 0 ∷ inside x told ∷ l)
+unfolding speltAll
+of-inside c x told l h =
+    of-after c (done c 0) (inside x told ∷ l) (of-done c 0) (record { spells = h .spells; own = (tt, h .own) })
+
+nothing : (c : Command) → Silent c []
+unfolding speltAll
+nothing c = record { spells = refl; own = tt }
+
+of-stop : (p : Printer) (c : Command) (x : Stop) → OfCommand c (verticalEvents p c x)
+of-stop p c (found k n) =
+    pick-elim (OfCommand c) (ltb n (edgeOf (p .settings))) (λ _. of-done c k) (λ _. of-inside c Control.FormFeed 0 [] (nothing c))
+of-stop p c missing = of-inside c Control.FormFeed 0 [] (nothing c)
+
+of-vertical : (p : Printer) (c : Command) → OfCommand c (vertical p c)
+unfolding vertical
+of-vertical p c =
+    pick-elim (OfCommand c) (p .stops .lineset)
+    (λ _. pick-elim (OfCommand c) (eqb (p .stops .lines .count) 0)
+    (λ _. of-inside c Control.CarriageReturn 0 _ (silent-feed c _))
+    (λ _. of-stop p c (lineFrom (downOf (p .place)) 1 (linesOf (p .stops .lines)))))
+    (λ _. of-inside c Control.LineFeed (pagesOfLine p) [] (nothing c))
+
+of-control : (p : Printer) (c : Control) (b : ℕ) → OfCommand (Command.Control c b) (controlEvents p c b)
+of-control p Control.CarriageReturn b = of-after _ _ _ (of-done _ 0) (silent-feed _ _)
+of-control p Control.LineFeed b = of-done _ _
+of-control p Control.FormFeed b = of-done _ _
+of-control p Control.HorizontalTab b = of-tab _ (columnFrom (p .settings) (p .place) 1 (columnsOf (p .stops .columns)))
+of-control p Control.VerticalTab b = of-vertical p _
+of-control p Control.Backspace b = of-attempt p _ 3
+of-control p Control.ShiftOut b = of-done _ _
+of-control p Control.ShiftIn b = of-attempt p _ 2
+of-control p Control.Dc2 b = of-done _ _
+of-control p Control.Dc4 b = of-done _ _
+
+pub of-decide : (p : Printer) (c : Command) → OfCommand c (decide p c)
+of-decide p (Command.Letter b) = of-letter p b
+of-decide p (Command.Control c b) = of-control p c b
+of-decide p (Command.Escape b) = of-done _ 0
+of-decide p (Command.Unlisted b) = of-passed _ 1
+of-decide p (Command.UnlistedEscape b) = of-passed _ 1
+of-decide p Command.Reset = of-done _ 0
+of-decide p (Command.Mode c) = of-attempt p _ 2
+of-decide p (Command.Parameter c n) = of-ranged (inRange c n) _ _ (of-attempt p _ 3)
+of-decide p (Command.Feed n) = of-done _ _
+of-decide p (Command.LeftMargin n) = of-attempt p _ 3
+of-decide p (Command.RightMargin n) = of-attempt p _ 3
+of-decide p (Command.PageLines n) = of-ranged (within 1 127 n) _ _ (of-attempt p _ 3)
+of-decide p (Command.PageInches n) = of-ranged (within 1 22 n) _ _ (of-attempt p _ 3)
+of-decide p (Command.Absolute a b) = of-attempt p _ 3
+of-decide p (Command.Relative a b) = of-attempt p _ 3
+of-decide p (Command.OpenImage d a b) = of-done _ 0
+of-decide p (Command.ImageByte d b) = of-attempt p _ 4
+of-decide p (Command.OpenList k) = of-done _ 0
+of-decide p (Command.ListByte k b) = of-attempt p _ 3
+of-decide p (Command.EndList k b) = of-done _ 0
+
+-- Steps
+
+frame-events : (p : Printer) (f : Frame) → speltAll (eventsIn p f) ++ pending (nextIn f) ≡ speltIn f
+unfolding speltAll
+frame-events p (Frame.Waits w) = refl
+frame-events p (Frame.Whole c w) = rw (of-decide p c .spells)
+
+step-spells : (p : Printer) (b : ℕ) → speltAll (stepEvents p b) ++ pending (stepOf p b .waiting) ≡ pending (p .waiting) ++ (b ∷ [])
+unfolding stepEvents stepOf
+step-spells p b = frame-events p (frameAt p b) ∙ frame-spells (p .settings .upperprints) (p .waiting) b
+
+spelt-append : (a b : List Event) → speltAll (a ++ b) ≡ speltAll a ++ speltAll b
+unfolding speltAll
+spelt-append [] b = refl
+spelt-append (e ∷ a) b = rw (spelt-append a b, append-assoc)
+
+pub steps-spell : (p : Printer) (input : List ℕ)
+    → speltAll (eventsOver p input) ++ pending (stateAfter p input .waiting) ≡ pending (p .waiting) ++ input
+unfolding eventsOver stateAfter speltAll
+steps-spell p [] = sym (append-nil (pending (p .waiting)))
+steps-spell p (b ∷ l) =
+    rw (spelt-append (stepEvents p b) (eventsOver (stepOf p b) l), append-assoc, steps-spell (stepOf p b) l, ← append-assoc, step-spells p b, append-assoc)
+
+own-genuine : (c : Command) (e : Event) → Genuine c → EventOf c e → GenuineEvent e
+own-genuine c (done x told) h o = rw o h
+own-genuine c (passed x reason) h o = rw o h
+own-genuine c (inside x told) h o = tt
+own-genuine c (automatic told) h o = tt
+
+frame-events-genuine : (p : Printer) (f : Frame) → GenuineIn f → Each GenuineEvent (eventsIn p f)
+frame-events-genuine p (Frame.Waits w) h = tt
+frame-events-genuine p (Frame.Whole c w) h = each-map (λ e. own-genuine c e h) (decide p c) (of-decide p c .own)
+
+pub steps-genuine : (p : Printer) (input : List ℕ) → Each GenuineEvent (eventsOver p input)
+unfolding eventsOver stepEvents
+steps-genuine p [] = tt
+steps-genuine p (b ∷ l) =
+    each-append GenuineEvent (stepEvents p b) (eventsOver (stepOf p b) l)
+    (frame-events-genuine p (frameAt p b) (frame-genuine (p .settings .upperprints) (p .waiting) b))
+    (steps-genuine (stepOf p b) l)

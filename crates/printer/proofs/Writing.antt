@@ -1,0 +1,205 @@
+-- What events write: at most two records a byte, each of which fits its 14 bytes.
+use Prim.Native.Nat.{ℕ, zero, suc, _+_, _*_, _-_, _/_, _%_, _≤_, _<_}
+use mathlib.Core.Path.{_≡_, refl}
+use mathlib.Core.Bool.{Bool, true, false}
+use mathlib.Core.List.{List, [], _∷_, _++_}
+use native.Mathlib.Omega.{arith}
+use native.Mathlib.Nat.{div-add-mod', mul-le-mul-left}
+use lib.Dec.{leb, ltb, eqb}
+use lib.ListN.{length, length-append}
+use borrow.Author.Tests.{leb-true, eqb-true}
+use Rattle.printer.specs.Tools.{pick, either, within, holds, Holds, Bytes, Each}
+use Rattle.printer.specs.Widths.{base, doubleWidth, advance, imageStep}
+use Rattle.printer.specs.Records.{styleOf, letterRecord, imageRecord, feedRecord, clearRecord, passedRecord, newTop, FitsBytes}
+use Rattle.printer.specs.Codes.{codeOf}
+use Rattle.printer.specs.Units.{rounded, perInchAcross, perInchDown, columnDots, rowDots}
+use Rattle.printer.specs.Settings.{lineOf, edgeOf, acrossOf, downOf, columnsOf, linesOf}
+use Rattle.printer.specs.Performing.{Event, done, passed, inside, automatic, placeAfter, controlPlace, settingsAfter, controlRecords, commandRecords, recordsOf, recordsAll, perform}
+use Rattle.printer.specs.Deciding.{countries, inRange, controlNeeds, needsAt, attempt, ranged, pagesOfLine, letterEvents, feedAfterReturn, Stop, found, missing, columnFrom, tabEvent, lineFrom, verticalEvents, vertical, controlEvents, decide}
+use Rattle.printer.specs.Steps.{frameAt, eventsIn, stepEvents, stepRecords, stepOf, recordsOver}
+use Rattle.printer.specs.declared.commands.Command.{Command}
+use Rattle.printer.specs.declared.commands.Control.{Control}
+use Rattle.printer.specs.declared.commands.Density.{Density}
+use Rattle.printer.specs.declared.commands.Frame.{Frame}
+use Rattle.printer.specs.declared.settings.Pitch.{Pitch}
+use Rattle.printer.specs.declared.settings.Settings.{Settings}
+use Rattle.printer.specs.declared.settings.Width.{Width}
+use Rattle.printer.specs.declared.state.Place.{Place}
+use Rattle.printer.specs.declared.state.Printer.{Printer}
+use Rattle.printer.specs.declared.stops.Stops.{Stops}
+use Rattle.printer.specs.declared.units.Resolution.{Resolution}
+use Rattle.printer.proofs.Choices.{pick-elim, either-elim, each-append}
+use Rattle.printer.proofs.Legal.{Done, Passed, Legal, LegalAll}
+use Rattle.printer.proofs.Keeping.{Fine, Kept, Ours, keep, keep-place, keep-control, kept, sound, step-ours}
+
+flag-le : (on : Bool) (n : ℕ) → pick on n 0 ≤ n
+flag-le true n = omega arith
+flag-le false n = omega arith
+
+pub style-fits : (s : Settings) → s .face .outline ≤ 3 → styleOf s ≤ 65535
+unfolding styleOf
+style-fits s h =
+    omega (arith, flag-le (s .emphasis .bold) 0x1, flag-le (s .emphasis .doublestrike) 0x2, flag-le (s .emphasis .italic) 0x4, flag-le (s .emphasis .underline) 0x8, flag-le (s .script .superscript) 0x10, flag-le (s .script .subscript) 0x20, flag-le (doubleWidth (s .width)) 0x40, flag-le (s .face .doubleheight) 0x80, flag-le (s .width .proportional) 0x400, flag-le (s .width .reduced) 0x800, flag-le (s .face .italictable) 0x1000, flag-le (s .face .download) 0x2000)
+
+base-le : (p : Pitch) (reduced proportional : Bool) → base p reduced proportional ≤ 360
+base-le Pitch.Cpi10 false false = omega arith
+base-le Pitch.Cpi12 false false = omega arith
+base-le Pitch.Cpi15 false false = omega arith
+base-le Pitch.Cpi10 true false = omega arith
+base-le Pitch.Cpi12 true false = omega arith
+base-le Pitch.Cpi15 true false = omega arith
+base-le p false true = omega arith
+base-le p true true = omega arith
+
+doubled-le : (on : Bool) (n m : ℕ) → n ≤ m → pick on 2 1 * n ≤ 2 * m
+doubled-le true n m h = omega arith
+doubled-le false n m h = omega arith
+
+pub advance-le : (w : Width) → w .spacing ≤ 127 → advance w ≤ 5800
+advance-le w h =
+    doubled-le (doubleWidth w) (base (w .pitch) (w .reduced) (w .proportional) + 20 * w .spacing) 2900
+    (omega (arith, base-le (w .pitch) (w .reduced) (w .proportional)))
+
+-- The records of a state within the bounds fit their bytes
+
+column-fits : (r : Resolution) (n : ℕ) → n ≤ 79200 → columnDots r n .0 ≤ 65535
+column-fits Resolution.Dots300 n h = omega arith
+column-fits Resolution.Dots203 n h = omega arith
+
+row-fits : (r : Resolution) (n : ℕ) → n ≤ 79200 → rowDots r n .0 ≤ 65535
+row-fits Resolution.Dots300 n h = omega arith
+row-fits Resolution.Dots203 n h = omega arith
+
+country-fits : (n : ℕ) → pick (countries n) 0 1 ≤ 0 → n ≤ 255
+country-fits n h = go (countries n) refl h
+  where
+    go : (t : Bool) → countries n ≡ t → pick t 0 1 ≤ 0 → n ≤ 255
+    go true e k =
+        either-elim _ (leb n 13) (eqb n 0x40) e (λ l. let m : n ≤ 13 = leb-true _ _ l in omega arith)
+        (λ l. let m : n ≡ 0x40 = eqb-true _ _ l in omega arith)
+    go false e k = omega arith
+
+letter-fits : (s : Settings) (x : Place) (b : ℕ) → b ≤ 255 → Fine s x → FitsBytes (letterRecord s x b)
+letter-fits s x b h f =
+    let a : advance (s .width) ≤ 5800 = advance-le (s .width) (omega arith) in
+    record {
+      column = column-fits (s .setup .resolution) (acrossOf x) (omega arith);
+      row = row-fits (s .setup .resolution) (downOf x) (omega arith);
+      byte = h;
+      font = f .2;
+      style = style-fits s (omega arith);
+      country = country-fits (s .face .country) (omega arith);
+      advance = omega arith;
+    }
+
+step-le : (d : Density) → imageStep d ≤ 60
+step-le Density.Single = omega arith
+step-le Density.Double = omega arith
+step-le Density.DoubleSpeed = omega arith
+step-le Density.Quadruple = omega arith
+
+image-fits : (s : Settings) (x : Place) (b : ℕ) (d : Density) → b ≤ 255 → Fine s x → FitsBytes (imageRecord s x b (imageStep d))
+image-fits s x b d h f =
+    record {
+      column = column-fits (s .setup .resolution) (acrossOf x) (omega arith);
+      row = row-fits (s .setup .resolution) (downOf x) (omega arith);
+      byte = h;
+      font = omega arith;
+      style = omega arith;
+      country = omega arith;
+      advance = omega (arith, step-le d);
+    }
+
+feed-fits : (r : Resolution) (down pages : ℕ) → down ≤ 79200 → pages ≤ 255 → FitsBytes (feedRecord r down pages)
+feed-fits r down pages h k =
+    record {
+      column = omega arith;
+      row = row-fits r down h;
+      byte = k;
+      font = omega arith;
+      style = omega arith;
+      country = omega arith;
+      advance = omega arith;
+    }
+
+control-deep : (s : Settings) (t : Stops) (x : Place) (c : Control) (told : ℕ) → Holds (controlNeeds s t x c told) → Fine s x
+    → downOf (controlPlace s t x c told) ≤ 79200
+control-deep s t x c told h f = let k = keep-control s t x c told h f in omega arith
+
+control-fits : (s : Settings) (t : Stops) (x : Place) (c : Control) (told : ℕ) → Holds (controlNeeds s t x c told) → Fine s x
+    → Each FitsBytes (controlRecords s (controlPlace s t x c told) c told)
+control-fits s t x Control.CarriageReturn told h f = tt
+control-fits s t x Control.LineFeed zero h f =
+    (feed-fits (s .setup .resolution) _ 0 (control-deep s t x Control.LineFeed zero h f) (omega arith), tt)
+control-fits s t x Control.LineFeed (suc n) h f =
+    (feed-fits (s .setup .resolution) _ (suc n) (control-deep s t x Control.LineFeed (suc n) h f) (omega arith), tt)
+control-fits s t x Control.FormFeed told h f =
+    (feed-fits (s .setup .resolution) _ 1 (control-deep s t x Control.FormFeed told h f) (omega arith), tt)
+control-fits s t x Control.HorizontalTab told h f = tt
+control-fits s t x Control.VerticalTab zero h f = tt
+control-fits s t x Control.VerticalTab (suc n) h f =
+    (feed-fits (s .setup .resolution) _ 0 (control-deep s t x Control.VerticalTab (suc n) h f) (omega arith), tt)
+control-fits s t x Control.Backspace told h f = tt
+control-fits s t x Control.ShiftOut told h f = tt
+control-fits s t x Control.ShiftIn told h f = tt
+control-fits s t x Control.Dc2 told h f = tt
+control-fits s t x Control.Dc4 told h f = tt
+
+-- the pages that ESC J turns are few
+pages-fit : (down n edge : ℕ) → down ≤ 79200 → n ≤ 255 → 3600 ≤ edge → (down + 20 * n) / edge ≤ 255
+pages-fit down n edge h k m =
+    omega (arith, div-add-mod' (down + 20 * n) edge, mul-le-mul-left ((down + 20 * n) / edge) m)
+
+clear-fits : FitsBytes clearRecord
+clear-fits = omega arith
+
+passed-fits : (b reason : ℕ) → b ≤ 255 → reason ≤ 5 → FitsBytes (passedRecord b reason)
+passed-fits b reason h k = omega arith
+
+command-fits : (p : Printer) (c : Command) (told : ℕ) → Done p c told → Fine (p .settings) (p .place)
+    → Each FitsBytes (recordsOf p (done c told))
+command-fits p (Command.Letter b) told h f = (letter-fits (p .settings) (p .place) b (h .bytes .0) f, tt)
+command-fits p (Command.Control c b) told h f = control-fits (p .settings) (p .stops) (p .place) c told (h .needs) f
+command-fits p (Command.Escape b) told h f = tt
+command-fits p (Command.Unlisted b) told h f = tt
+command-fits p (Command.UnlistedEscape b) told h f = tt
+command-fits p Command.Reset told h f = (feed-fits (p .settings .setup .resolution) 0 newTop (omega arith) (omega arith), tt)
+command-fits p (Command.Mode c) told h f = tt
+command-fits p (Command.Parameter c n) told h f = tt
+command-fits p (Command.Feed n) told h f =
+    let k = keep-place p (Command.Feed n) told h f in
+    let q = pages-fit (downOf (p .place)) n (edgeOf (p .settings)) (omega arith) (h .bytes .1 .0) (omega arith) in
+    let m = h .needs in
+    (feed-fits (p .settings .setup .resolution) _ told (omega arith) (omega arith), tt)
+command-fits p (Command.LeftMargin n) told h f = (clear-fits, tt)
+command-fits p (Command.RightMargin n) told h f = (clear-fits, tt)
+command-fits p (Command.PageLines n) told h f = (feed-fits (p .settings .setup .resolution) 0 newTop (omega arith) (omega arith), tt)
+command-fits p (Command.PageInches n) told h f = (feed-fits (p .settings .setup .resolution) 0 newTop (omega arith) (omega arith), tt)
+command-fits p (Command.Absolute a b) told h f = tt
+command-fits p (Command.Relative a b) told h f = tt
+command-fits p (Command.OpenImage d a b) told h f = tt
+command-fits p (Command.ImageByte d b) told h f = (image-fits (p .settings) (p .place) b d (h .bytes .0) f, tt)
+command-fits p (Command.OpenList k) told h f = tt
+command-fits p (Command.ListByte k b) told h f = tt
+command-fits p (Command.EndList k b) told h f = tt
+
+pub event-fits : (p : Printer) (e : Event) → Legal p e → Kept p → Each FitsBytes (recordsOf p e)
+event-fits p (done c told) h k = command-fits p c told h (k .fine)
+event-fits p (passed c reason) h k = (passed-fits (codeOf c) reason (h .bytes .0) (h .known), tt)
+event-fits p (inside c told) h k = control-fits (p .settings) (p .stops) (p .place) c told h (k .fine)
+event-fits p (automatic told) h k = control-fits (p .settings) (p .stops) (p .place) Control.LineFeed told h (k .fine)
+
+events-fit : (p : Printer) (l : List Event) → LegalAll p l → Kept p → Each FitsBytes (recordsAll p l)
+unfolding recordsAll
+events-fit p [] h k = tt
+events-fit p (e ∷ l) h k =
+    each-append FitsBytes (recordsOf p e) (recordsAll (perform p e) l) (event-fits p e (h .0) k)
+    (events-fit (perform p e) l (h .1) (keep p e (h .0) k))
+
+pub steps-fit : (p : Printer) (l : List ℕ) → Bytes l → Ours p → Each FitsBytes (recordsOver p l)
+unfolding recordsOver stepRecords stepEvents
+steps-fit p [] h o = tt
+steps-fit p (b ∷ l) h o =
+    each-append FitsBytes (stepRecords p b) (recordsOver (stepOf p b) l)
+    (events-fit p (eventsIn p (frameAt p b)) (sound p b (h .0) (o .typed) (o .accepted) .legal) (kept p (o .typed) (o .accepted)))
+    (steps-fit (stepOf p b) l (h .1) (step-ours p b (h .0) o))

@@ -1,0 +1,112 @@
+-- Document 01, 'Calls and their numbers': the start, the reading calls, and what each of them promises.
+use Prim.Native.Nat.{ℕ, zero, suc, _+_, _*_, _-_}
+use mathlib.Core.Path.{_≡_}
+use mathlib.Core.Bool.{Bool, true, false}
+use mathlib.Core.List.{List, [], _∷_, _++_}
+use lib.Dec.{ltb, eqb}
+use lib.ListN.{length, drop}
+use Rattle.printer.specs.Tools.{pick, Bytes}
+use Rattle.printer.specs.PowerOn.{powerOn}
+use Rattle.printer.specs.Records.{recordSize, roomForByte, encodedAll}
+use Rattle.printer.specs.Steps.{stepOf, stepRecords}
+use Rattle.printer.specs.Bounds.{accepted}
+use Rattle.printer.specs.declared.answers.Answer.{Answer}
+use Rattle.printer.specs.declared.answers.Counts.{Counts}
+use Rattle.printer.specs.declared.answers.Reading.{Reading}
+use Rattle.printer.specs.declared.answers.Started.{Started}
+use Rattle.printer.specs.declared.records.Record.{Record}
+use Rattle.printer.specs.declared.settings.Setup.{Setup}
+use Rattle.printer.specs.declared.state.Printer.{Printer}
+use Rattle.printer.specs.declared.units.Resolution.{Resolution}
+
+-- the numbers of the answers
+abbrev pub numberOf : Answer → ℕ
+numberOf Answer.InputUsed = 0
+numberOf Answer.AllowanceUsed = 1
+numberOf Answer.OutputFull = 2
+numberOf Answer.SettingsRefused = 3
+numberOf Answer.StateRefused = 4
+
+-- The start
+
+abbrev pub setup : Resolution → Bool → Setup
+setup r autofeed = record { resolution = r; autofeed = autofeed }
+
+abbrev pub started : Answer → Setup → Started
+started a t = record { answer = a; printer = powerOn t }
+
+-- 300 or 203, or refused with the power-on state for 300, automatic line feed off
+unfoldable pub startOf : (resolution : ℕ) (autofeed : Bool) → Started
+startOf resolution autofeed =
+    pick (eqb resolution 300) (started Answer.InputUsed (setup Resolution.Dots300 autofeed))
+    (pick (eqb resolution 203) (started Answer.InputUsed (setup Resolution.Dots203 autofeed))
+    (started Answer.SettingsRefused (setup Resolution.Dots300 false)))
+
+-- Reading
+
+-- what reading comes to: the answer, the state, the bytes read and the records
+pub record Run : Type 0 where
+  pub answer : Answer
+  pub printer : Printer
+  pub read : ℕ
+  pub records : List Record
+
+abbrev pub stopped : Answer → Printer → Run
+stopped a p = record { answer = a; printer = p; read = 0; records = [] }
+
+-- one byte read before a run, with its records
+abbrev pub afterByte : List Record → Run → Run
+afterByte l v =
+    record { answer = v .answer; printer = v .printer; read = suc (v .read); records = l ++ v .records }
+
+-- before each byte: input used up; allowance used; under 28 output bytes left
+unfoldable pub runOf : Printer → (input : List ℕ) → (allowance room : ℕ) → Run
+runOf p [] allowance room = stopped Answer.InputUsed p
+runOf p (b ∷ l) zero room = stopped Answer.AllowanceUsed p
+runOf p (b ∷ l) (suc allowance) room =
+    pick (ltb room roomForByte)
+    (stopped Answer.OutputFull p)
+    (afterByte (stepRecords p b)
+    (runOf (stepOf p b) l allowance (room - recordSize * length (stepRecords p b))))
+
+-- 4 is tested before all else
+unfoldable pub callOf : Printer → (input : List ℕ) → (allowance room : ℕ) → Run
+callOf p input allowance room = pick (accepted p) (runOf p input allowance room) (stopped Answer.StateRefused p)
+
+-- what the call by value gives back
+abbrev pub readingOf : Printer → List ℕ → ℕ → ℕ → Reading
+readingOf p input allowance room =
+    record {
+      answer = callOf p input allowance room .answer;
+      printer = callOf p input allowance room .printer;
+      read = callOf p input allowance room .read;
+      written = recordSize * length (callOf p input allowance room .records);
+    }
+
+-- what the output holds after the call: the records, and past them what it held
+abbrev pub outputOf : Printer → List ℕ → ℕ → List ℕ → List ℕ
+outputOf p input allowance out =
+    encodedAll (callOf p input allowance (length out) .records)
+    ++ drop (recordSize * length (callOf p input allowance (length out) .records)) out
+
+abbrev pub countsOf : Reading → Counts
+countsOf r = record { answer = r .answer; read = r .read; written = r .written }
+
+-- The promises
+
+-- what a start promises of its settings and what it gives back
+pub record StartPromise (resolution : ℕ) (autofeed : Bool) (back : Started) : Type 0 where
+  pub gives : back ≡ startOf resolution autofeed
+
+-- what a reading call promises of the state, the input, the allowance, the output before, what it gives back, and the output after
+pub record ReadPromise
+    (p : Printer) (input : List ℕ) (allowance : ℕ) (out : List ℕ) (back : Reading) (after : List ℕ) : Type 0 where
+  pub gives : back ≡ readingOf p input allowance (length out)
+  pub output : after ≡ outputOf p input allowance out
+
+-- the same of the call to which the state is lent, with the state that it leaves
+pub record LentPromise
+    (p : Printer) (input : List ℕ) (allowance : ℕ) (out : List ℕ) (back : Counts) (left : Printer) (after : List ℕ) : Type 0 where
+  pub gives : back ≡ countsOf (readingOf p input allowance (length out))
+  pub state : left ≡ readingOf p input allowance (length out) .printer
+  pub output : after ≡ outputOf p input allowance out

@@ -1,0 +1,161 @@
+-- Demand 3 in its terms: a list of calls with what came back, and the one claim about it.
+use Prim.Native.Nat.{ℕ, _+_, _≤_}
+use mathlib.Core.Bool.{Bool, true, false}
+use mathlib.Core.Path.{_≡_}
+use mathlib.Core.List.{List, [], _∷_, _++_, map}
+use lib.ListN.{length, take}
+use Rattle.printer.specs.Tools.{Each, Bytes}
+use Rattle.printer.specs.Units.{rounded}
+use Rattle.printer.specs.Records.{decodedAll}
+use Rattle.printer.specs.Steps.{stateAfter, eventsOver}
+use Rattle.printer.specs.Calls.{numberOf, startOf, readingOf, outputOf, countsOf, StartPromise, ReadPromise, LentPromise}
+use Rattle.printer.specs.Reckoning.{Occurrence, start, event, begun, Printed, printed, exact}
+use Rattle.printer.specs.declared.answers.Counts.{Counts}
+use Rattle.printer.specs.declared.answers.Reading.{Reading}
+use Rattle.printer.specs.declared.answers.Started.{Started}
+use Rattle.printer.specs.declared.records.Mark.{Mark}
+use Rattle.printer.specs.declared.records.Record.{Record}
+use Rattle.printer.specs.declared.state.Printer.{Printer}
+
+-- Calls with what came back
+
+-- what a start was given and gave back
+pub record StartCall : Type 0 where
+  pub resolution : ℕ
+  pub autofeed : Bool
+  pub back : Started
+
+-- a reading call: the state it got, input, allowance, the output before and after, what came back, and the state returned or left
+pub record ReadCall : Type 0 where
+  pub state : Printer
+  pub input : List ℕ
+  pub allowance : ℕ
+  pub out : List ℕ
+  pub back : Counts
+  pub left : Printer
+  pub after : List ℕ
+
+-- the state goes by value, or is lent
+pub data Manner : Type 0 where
+  byValue lent : Manner
+
+pub data Call : Type 0 where
+  started : StartCall → Call
+  read : Manner → ReadCall → Call
+
+-- what the call by value gave back, put together
+abbrev pub readingBack : ReadCall → Reading
+readingBack c =
+    record { answer = c .back .answer; printer = c .left; read = c .back .read; written = c .back .written }
+
+abbrev pub ReadingPromise : Manner → ReadCall → Type 0
+ReadingPromise byValue c = ReadPromise (c .state) (c .input) (c .allowance) (c .out) (readingBack c) (c .after)
+ReadingPromise lent c = LentPromise (c .state) (c .input) (c .allowance) (c .out) (c .back) (c .left) (c .after)
+
+-- each call met its promise, and got the state that the call before it returned or left; input is bytes
+abbrev pub Chain : Printer → List Call → Type 0
+Chain held [] = Unit
+Chain held (started c ∷ l) = StartPromise (c .resolution) (c .autofeed) (c .back) × Chain (c .back .printer) l
+Chain held (read m c ∷ l) = ((c .state ≡ held) × Bytes (c .input) × ReadingPromise m c) × Chain (c .left) l
+
+-- The reckoning fed: a start's settings; a reading call's input and how many of its first bytes were read. The rules' steps over
+-- these bytes, from its own power-on, tell the events; no state that a call gave back is read.
+
+abbrev pub bytesOf : ReadCall → List ℕ
+bytesOf c = take (c .back .read) (c .input)
+
+-- the rules' own state after a call
+abbrev pub rulesAfter : Printer → Call → Printer
+rulesAfter p (started c) = startOf (c .resolution) (c .autofeed) .printer
+rulesAfter p (read m c) = stateAfter p (bytesOf c)
+
+abbrev pub occurrencesAt : Printer → Call → List Occurrence
+occurrencesAt p (started c) = start (c .resolution) ∷ []
+occurrencesAt p (read m c) = map event (eventsOver p (bytesOf c))
+
+unfoldable pub occurrences : Printer → List Call → List Occurrence
+occurrences p [] = []
+occurrences p (c ∷ l) = occurrencesAt p c ++ occurrences (rulesAfter p c) l
+
+-- The claim
+
+-- answer numbers, counts, states and written records are the rules' own
+abbrev pub OwnCall : Printer → Call → Type 0
+OwnCall p (started c) = c .back ≡ startOf (c .resolution) (c .autofeed)
+OwnCall p (read m c) =
+    (c .state ≡ p)
+    × (c .back ≡ countsOf (readingOf p (c .input) (c .allowance) (length (c .out))))
+    × (c .left ≡ stateAfter p (bytesOf c))
+    × (c .after ≡ outputOf p (c .input) (c .allowance) (c .out))
+
+abbrev pub Own : Printer → List Call → Type 0
+Own p [] = Unit
+Own p (c ∷ l) = OwnCall p c × Own (rulesAfter p c) l
+
+-- answer 4 does not come
+abbrev pub NotFour : Call → Type 0
+NotFour (started c) = numberOf (c .back .answer) ≤ 3
+NotFour (read m c) = numberOf (c .back .answer) ≤ 3
+
+-- the bytes written, joined over all calls
+abbrev pub writtenBy : Call → List ℕ
+writtenBy (started c) = []
+writtenBy (read m c) = take (c .back .written) (c .after)
+
+unfoldable pub joined : List Call → List ℕ
+joined [] = []
+joined (c ∷ l) = writtenBy c ++ joined l
+
+-- a TX or IM record as demand 3 speaks of it
+pub record Shown : Type 0 where
+  pub mark : Mark
+  pub byte : ℕ
+  pub column : ℕ
+  pub row : ℕ
+  pub advance : ℕ
+
+abbrev pub shownAs : Record → Mark → Shown
+shownAs r m =
+    record { mark = m; byte = r .byte; column = r .column .0; row = r .row .0; advance = r .advance .0 }
+
+abbrev pub shownBy : Record → Mark → List Shown
+shownBy r Mark.Tx = shownAs r Mark.Tx ∷ []
+shownBy r Mark.Im = shownAs r Mark.Im ∷ []
+shownBy r Mark.Ln = []
+shownBy r Mark.Cl = []
+shownBy r Mark.No = []
+
+-- the TX and IM records of a list, in order
+unfoldable pub shown : List Record → List Shown
+shown [] = []
+shown (r ∷ l) = shownBy r (r .mark) ++ shown l
+
+-- what is printed, at the rounding rule's dots of its exact place
+abbrev pub dotted : Printed → Shown
+dotted e =
+    record {
+      mark = e .mark;
+      byte = e .byte;
+      column = rounded (e .here .dAcross) (exact (e .here .across));
+      row = rounded (e .here .dDown) (exact (e .here .down));
+      advance = e .advance;
+    }
+
+-- left ≤ exact across, and exact across + advance ≤ right. The sums of moves back stand on the other side, so that no difference is cut off at 0.
+pub record Between (e : Printed) : Type 0 where
+  pub fromLeft :
+      e .here .force .measures .left + e .here .across .back ≤ e .here .across .set + e .here .across .forth
+  pub toRight :
+      e .here .across .set + e .here .across .forth + e .advance
+      ≤ e .here .force .measures .right + e .here .across .back
+  pub fromTop : e .here .down .back ≤ e .here .down .set + e .here .down .forth
+
+-- what the reckoning says was printed over a list of calls that begins with a start
+abbrev pub printedOver : Printer → List Call → List Printed
+printedOver p l = printed (begun 300) (occurrences p l)
+
+pub record Demand3 (p : Printer) (l : List Call) : Type 0 where
+  pub own : Own p l
+  pub noFour : Each NotFour l
+  pub same : shown (decodedAll (joined l)) ≡ map dotted (printedOver p l)
+  pub between : Each Between (printedOver p l)

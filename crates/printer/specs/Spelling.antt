@@ -1,0 +1,93 @@
+-- The bytes that commands were received by: the terms of the spelling law.
+use Prim.Native.Nat.{ℕ, _+_, _≤_}
+use mathlib.Core.Path.{_≡_}
+use mathlib.Core.List.{List, [], _∷_, _++_}
+use mathlib.Core.Logic.{_⊎_}
+use Rattle.printer.specs.Tools.{Each}
+use Rattle.printer.specs.Codes.{controlCode, oneCode, twoCode, codeOf}
+use Rattle.printer.specs.Performing.{Event, done, passed, inside, automatic}
+use Rattle.printer.specs.declared.commands.Command.{Command}
+use Rattle.printer.specs.declared.commands.Waiting.{Waiting}
+
+-- the bytes after the code
+abbrev pub argumentsOf : Command → List ℕ
+argumentsOf (Command.Letter b) = []
+argumentsOf (Command.Control c b) = []
+argumentsOf (Command.Escape b) = []
+argumentsOf (Command.Unlisted b) = []
+argumentsOf (Command.UnlistedEscape b) = []
+argumentsOf Command.Reset = []
+argumentsOf (Command.Mode c) = []
+argumentsOf (Command.Parameter c n) = n ∷ []
+argumentsOf (Command.Feed n) = n ∷ []
+argumentsOf (Command.LeftMargin n) = n ∷ []
+argumentsOf (Command.RightMargin n) = n ∷ []
+argumentsOf (Command.PageLines n) = n ∷ []
+argumentsOf (Command.PageInches n) = 0 ∷ n ∷ []
+argumentsOf (Command.Absolute a b) = a ∷ b ∷ []
+argumentsOf (Command.Relative a b) = a ∷ b ∷ []
+argumentsOf (Command.OpenImage d a b) = a ∷ b ∷ []
+argumentsOf (Command.ImageByte d b) = []
+argumentsOf (Command.OpenList t) = []
+argumentsOf (Command.ListByte t b) = []
+argumentsOf (Command.EndList t b) = []
+
+-- a command's bytes, as received; an escape's first byte is a command by itself
+abbrev pub spelt : Command → List ℕ
+spelt c = codeOf c ∷ argumentsOf c
+
+-- the bytes received of what is still waited for
+abbrev pub pending : Waiting → List ℕ
+pending Waiting.Nothing = []
+pending Waiting.SecondByte = []
+pending (Waiting.Argument c) = oneCode c ∷ []
+pending Waiting.PageLength = 0x43 ∷ []
+pending Waiting.PageInches = 0x43 ∷ 0 ∷ []
+pending (Waiting.FirstOf c) = twoCode c ∷ []
+pending (Waiting.SecondOf c a) = twoCode c ∷ a ∷ []
+pending (Waiting.StopList t b) = []
+pending (Waiting.ImageData d n) = []
+
+-- a byte that stands for a control code: that code, or 80h more
+abbrev pub StandsFor : ℕ → ℕ → Type 0
+StandsFor b code = (b ≡ code) ⊎ (b ≡ code + 0x80)
+
+-- a single byte is taken for what it is: a letter, a control, the beginning of an escape, or none of them
+abbrev pub Genuine : Command → Type 0
+Genuine (Command.Letter b) = (0x20 ≤ b) × (b ≡ 0x7F → ⊥)
+Genuine (Command.Control c b) = StandsFor b (controlCode c)
+Genuine (Command.Escape b) = StandsFor b 0x1B
+Genuine (Command.Unlisted b) = (b ≤ 0x1F) ⊎ ((0x7F ≤ b) × (b ≤ 0x9F))
+Genuine (Command.UnlistedEscape b) = Unit
+Genuine Command.Reset = Unit
+Genuine (Command.Mode c) = Unit
+Genuine (Command.Parameter c n) = Unit
+Genuine (Command.Feed n) = Unit
+Genuine (Command.LeftMargin n) = Unit
+Genuine (Command.RightMargin n) = Unit
+Genuine (Command.PageLines n) = Unit
+Genuine (Command.PageInches n) = Unit
+Genuine (Command.Absolute a b) = Unit
+Genuine (Command.Relative a b) = Unit
+Genuine (Command.OpenImage d a b) = Unit
+Genuine (Command.ImageByte d b) = Unit
+Genuine (Command.OpenList t) = Unit
+Genuine (Command.ListByte t b) = Unit
+Genuine (Command.EndList t b) = Unit
+
+-- what events spell: commands performed inside another have no bytes of their own
+abbrev pub speltBy : Event → List ℕ
+speltBy (done c told) = spelt c
+speltBy (passed c reason) = spelt c
+speltBy (inside c told) = []
+speltBy (automatic told) = []
+
+unfoldable pub speltAll : List Event → List ℕ
+speltAll [] = []
+speltAll (e ∷ l) = speltBy e ++ speltAll l
+
+abbrev pub GenuineEvent : Event → Type 0
+GenuineEvent (done c told) = Genuine c
+GenuineEvent (passed c reason) = Genuine c
+GenuineEvent (inside c told) = Unit
+GenuineEvent (automatic told) = Unit

@@ -1,0 +1,163 @@
+// The state of the printer, and the state at power-on.
+use crate::commands::Waiting;
+use crate::settings::Emphasis;
+use crate::settings::Face;
+use crate::settings::Margins;
+use crate::settings::Paper;
+use crate::settings::Pitch;
+use crate::settings::Script;
+use crate::settings::Settings;
+use crate::settings::Setup;
+use crate::settings::Width;
+use crate::stops::Columns;
+use crate::stops::Lines;
+use crate::stops::Stops;
+use crate::units::Units;
+ghost use mathlib.Core.Path.{_≡_};
+ghost use Rattle.printer.specs.PowerOn.{powerOn, powerOnSettings, powerOnStops, noColumns, noLines};
+
+pub struct Place {
+    pub across: Units,
+    pub down: Units,
+}
+
+pub struct Printer {
+    pub settings: Settings,
+    pub place: Place,
+    pub stops: Stops,
+    pub waiting: Waiting,
+}
+
+// 10 cpi, single width.
+fn power_on_width() -> Width
+    ensures { λ r. ⌜ ((t : Setup) → r ≡ powerOnSettings t .width) ⌝ }
+{
+    let pitch = Pitch::Cpi10;
+    Width {
+        pitch,
+        spacing: 0,
+        wide: false,
+        wideonce: false,
+        reduced: false,
+        proportional: false,
+    }
+}
+
+// Font and country 0, and no style.
+fn power_on_face() -> Face
+    ensures { λ r. ⌜ ((t : Setup) → r ≡ powerOnSettings t .face) ⌝ }
+{
+    Face {
+        font: 0,
+        country: 0,
+        outline: 0,
+        doubleheight: false,
+        italictable: false,
+        download: false,
+    }
+}
+
+fn power_on_settings(setup: Setup) -> Settings
+    ensures { λ r. ⌜ r ≡ powerOnSettings setup ⌝ }
+{
+    let left = Units(0);
+    let right = Printer::WIDTH;
+    let page = Printer::POWER_ON_PAGE;
+    let skip = Units(0);
+    let line = Printer::POWER_ON_LINE;
+    Settings {
+        setup,
+        width: power_on_width(),
+        emphasis: Emphasis {
+            bold: false,
+            doublestrike: false,
+            italic: false,
+            underline: false,
+        },
+        script: Script {
+            superscript: false,
+            subscript: false,
+        },
+        face: power_on_face(),
+        margins: Margins { left, right },
+        paper: Paper { page, skip, line },
+        draft: false,
+        upperprints: true,
+    }
+}
+
+fn no_columns() -> Columns
+    ensures { λ r. ⌜ r ≡ noColumns ⌝ }
+{
+    let stops = [0; Columns::MOST];
+    Columns { stops, count: 0 }
+}
+
+fn no_lines() -> Lines
+    ensures { λ r. ⌜ r ≡ noLines ⌝ }
+{
+    let stops = [0; Lines::MOST];
+    Lines { stops, count: 0 }
+}
+
+// Horizontal stops at columns 8, 16 .. 72.
+fn power_on_columns() -> Columns
+    ensures { λ r. ⌜ r ≡ powerOnStops .columns ⌝ }
+{
+    let mut stops = [0; Columns::MOST];
+    stops[0] = 8;
+    stops[1] = 16;
+    stops[2] = 24;
+    stops[3] = 32;
+    stops[4] = 40;
+    stops[5] = 48;
+    stops[6] = 56;
+    stops[7] = 64;
+    stops[8] = 72;
+    Columns { stops, count: 9 }
+}
+
+// Vertical stops never set, and none being gathered.
+fn power_on_stops() -> Stops
+    ensures { λ r. ⌜ r ≡ powerOnStops ⌝ }
+{
+    Stops {
+        columns: power_on_columns(),
+        lines: no_lines(),
+        lineset: false,
+        newcolumns: no_columns(),
+        newlines: no_lines(),
+    }
+}
+
+impl Printer {
+    // The shortest page.
+    pub const LEAST_PAGE: Units = Units(3600);
+
+    // The longest page.
+    pub const MOST_PAGE: Units = Units(79200);
+
+    // The page at power-on.
+    pub const POWER_ON_PAGE: Units = Units(39600);
+
+    // The width that is printed on: 80 columns at 10 cpi.
+    pub const WIDTH: Units = Units(28800);
+
+    // The line amount at power-on.
+    pub const POWER_ON_LINE: Units = Units(600);
+
+    // The state at power-on.
+    pub fn power_on(setup: Setup) -> Printer
+        ensures { λ r. ⌜ r ≡ powerOn setup ⌝ }
+    {
+        Printer {
+            settings: power_on_settings(setup),
+            place: Place {
+                across: Units(0),
+                down: Units(0),
+            },
+            stops: power_on_stops(),
+            waiting: Waiting::Nothing,
+        }
+    }
+}
