@@ -1,6 +1,6 @@
 -- The bounds as a test and as facts are one, in both directions; the power-on states are within them.
 use mathlib.Core.Path.{_≡_, refl}
-use mathlib.Core.Bool.{Bool, true, false}
+use mathlib.Core.Bool.{true}
 use mathlib.Core.List.{List}
 use native.Mathlib.Omega.{arith}
 use Rattle.printer.specs.Tools.{both, Order, holds}

@@ -1,13 +1,11 @@
 -- Records and their bytes: decoding an encoding gives the record back.
-use Prim.Native.Nat.{ℕ, zero, suc, _+_, _*_, _-_, _/_, _%_, _≤_, _<_}
-use mathlib.Core.Path.{_≡_, refl, ap, _∙_, sym}
-use mathlib.Core.Bool.{Bool, true, false}
+use Prim.Native.Nat.{ℕ, _+_, _*_, _/_, _≤_}
+use mathlib.Core.Path.{_≡_, refl}
 use mathlib.Core.List.{List, [], _∷_, _++_, append-assoc}
 use native.Mathlib.Omega.{arith}
-use lib.ListN.{length, take, drop, getD, length-append}
+use lib.ListN.{length, take, length-append}
 use lib.Seq.{take-at, drop-at}
-use Rattle.printer.specs.Tools.{pick, Each}
-use Rattle.printer.specs.Units.{units}
+use Rattle.printer.specs.Tools.{Each}
 use Rattle.printer.specs.Records.{recordSize, low, high, markLow, markHigh, encoded, encodedAll, marksOf, decoded, decodedFirst, decodedAll, FitsBytes}
 use Rattle.printer.specs.declared.records.Mark.{Mark}
 use Rattle.printer.specs.declared.records.Record.{Record}

@@ -1,21 +1,20 @@
 -- Demand 3, over every list of calls with what came back that begins with a start.
-use Prim.Native.Nat.{ℕ, zero, suc, _+_, _*_, _-_, _≤_}
-use mathlib.Core.Path.{_≡_, refl, ap, _∙_, sym}
+use Prim.Native.Nat.{ℕ, zero, suc, _*_, _-_, _≤_}
+use mathlib.Core.Path.{_≡_, refl, ap, _∙_}
 use mathlib.Core.Bool.{Bool, true, false}
-use mathlib.Core.List.{List, [], _∷_, _++_, map}
+use mathlib.Core.List.{List, [], _∷_, _++_}
 use native.Mathlib.Omega.{arith}
 use lib.Dec.{ltb, eqb}
-use lib.ListN.{length, take}
+use lib.ListN.{length}
 use borrow.Author.Tests.{eqb-true}
 use Rattle.printer.specs.Tools.{pick, Each, Bytes}
-use Rattle.printer.specs.Records.{recordSize, roomForByte, encodedAll, decodedAll, FitsBytes}
-use Rattle.printer.specs.Steps.{stateAfter, recordsOver, stepOf, stepRecords, eventsOver}
+use Rattle.printer.specs.Records.{recordSize, roomForByte, encodedAll, FitsBytes}
+use Rattle.printer.specs.Steps.{recordsOver, stepOf, stepRecords}
 use Rattle.printer.specs.PowerOn.{powerOn}
 use Rattle.printer.specs.Calls
-use Rattle.printer.specs.Calls.{numberOf, setup, startOf, Run, stopped, afterByte, runOf, callOf, readingOf, outputOf, countsOf, StartPromise, ReadPromise, LentPromise}
-use Rattle.printer.specs.Reckoning.{origin, begun, Reckoning, Axis, event, printed}
-use Rattle.printer.specs.Demand3
-use Rattle.printer.specs.Demand3.{StartCall, ReadCall, Manner, byValue, lent, Call, started, read, ReadingPromise, readingBack, Chain, bytesOf, rulesAfter, occurrences, OwnCall, Own, NotFour, writtenBy, joined, shown, dotted, Between, printedOver, Demand3}
+use Rattle.printer.specs.Calls.{numberOf, setup, startOf, Run, runOf, callOf, readingOf, outputOf, countsOf}
+use Rattle.printer.specs.Reckoning.{origin, begun, Axis, printed}
+use Rattle.printer.specs.Demand3.{StartCall, ReadCall, Manner, byValue, lent, Call, started, read, ReadingPromise, Chain, bytesOf, rulesAfter, occurrences, OwnCall, Own, NotFour, writtenBy, joined, Demand3}
 use Rattle.printer.specs.declared.answers.Answer.{Answer}
 use Rattle.printer.specs.declared.answers.Counts.{Counts}
 use Rattle.printer.specs.declared.answers.Reading.{Reading}
@@ -26,7 +25,7 @@ use Rattle.printer.specs.declared.state.Printer.{Printer}
 use Rattle.printer.specs.declared.units.Resolution.{Resolution}
 use Rattle.printer.proofs.Choices.{pick-elim, each-append, bytes-take}
 use Rattle.printer.proofs.Accepting.{fact-accepted}
-use Rattle.printer.proofs.Keeping.{Ours, steps-ours, power-on-ours}
+use Rattle.printer.proofs.KeepingSteps.{Ours, steps-ours, power-on-ours}
 use Rattle.printer.proofs.Writing.{steps-fit}
 use Rattle.printer.proofs.Bytes.{decodedAll-encoded, encodedAll-append}
 use Rattle.printer.proofs.Cuts.{call-steps, call-writes}

@@ -1,21 +1,21 @@
 -- Demand 3's claim, for events and bytes: the TX and IM records are those of what the reckoning prints, between the margins.
 use Prim.Native.Nat.{ℕ, zero, suc, _+_, _*_, _-_, _≤_}
-use mathlib.Core.Path.{_≡_, refl, ap, _∙_, sym}
-use mathlib.Core.Bool.{Bool, true, false}
+use mathlib.Core.Path.{_≡_, refl}
+use mathlib.Core.Bool.{Bool}
 use mathlib.Core.List.{List, [], _∷_, _++_, map, append-assoc, map-append}
 use native.Mathlib.Omega.{arith}
 use lib.Dec.{leb, eqb}
-use Rattle.printer.specs.Tools.{pick, holds, Each, Bytes}
-use Rattle.printer.specs.Units.{rounded}
+use Rattle.printer.specs.Tools.{holds, Each, Bytes}
 use Rattle.printer.specs.Widths.{imageStep}
 use Rattle.printer.specs.Settings.{acrossOf, downOf}
-use Rattle.printer.specs.Framing.{frame, isLetter, readAs, firstOf, secondOf, firstFrame, secondFrame, oneCommand, twoCommand, afterTwo, imageWait, listFrame}
-use Rattle.printer.specs.Performing.{Event, done, passed, inside, automatic, controlPlace, controlRecords, commandRecords, recordsOf, recordsAll, perform, performAll}
+use Rattle.printer.specs.Framing.{frame, isLetter, readAs, firstOf, secondOf, firstFrame, secondFrame, oneCommand, twoCommand, afterTwo, imageWait}
+use Rattle.printer.specs.Performing.{Event, done, passed, inside, automatic, controlRecords, recordsOf, recordsAll, perform, performAll}
 use Rattle.printer.specs.Deciding.{needsAt, attempt, decide}
 use Rattle.printer.specs.Steps.{frameAt, eventsIn, nextIn, stepEvents, stepRecords, stepOf, stateAfter, recordsOver, eventsOver}
-use Rattle.printer.specs.Reckoning
-use Rattle.printer.specs.Reckoning.{Axis, moved, exact, Reckoning, reckon, reckonControl, Printed, printedBy, printedAt, Occurrence, event, printed, stepOfImage, enforce, acrossBy, downBy, acrossByControl, downByControl}
-use Rattle.printer.specs.Demand3.{Shown, shownBy, shown, dotted, Between}
+use Rattle.printer.specs.InForce
+use Rattle.printer.specs.InForce.{stepOfImage, enforce}
+use Rattle.printer.specs.Reckoning.{Axis, moved, exact, reckon, Printed, printedBy, printedAt, Occurrence, event, printed, acrossBy, downBy, acrossByControl, downByControl}
+use Rattle.printer.specs.Demand3.{shown, dotted, Between}
 use Rattle.printer.specs.declared.commands.Command.{Command}
 use Rattle.printer.specs.declared.commands.Control.{Control}
 use Rattle.printer.specs.declared.commands.Density.{Density}
@@ -23,7 +23,6 @@ use Rattle.printer.specs.declared.commands.First.{First}
 use Rattle.printer.specs.declared.commands.Frame.{Frame}
 use Rattle.printer.specs.declared.commands.One.{One}
 use Rattle.printer.specs.declared.commands.Second.{Second}
-use Rattle.printer.specs.declared.commands.Tabs.{Tabs}
 use Rattle.printer.specs.declared.commands.Two.{Two}
 use Rattle.printer.specs.declared.commands.Waiting.{Waiting}
 use Rattle.printer.specs.declared.records.Record.{Record}
@@ -33,7 +32,8 @@ use Rattle.printer.specs.declared.state.Printer.{Printer}
 use Rattle.printer.proofs.Choices.{pick-elim, each-append, each-map}
 use Rattle.printer.proofs.Spelling.{EventOf, of-decide}
 use Rattle.printer.proofs.Legal.{Done, Legal, LegalAll}
-use Rattle.printer.proofs.Keeping.{Fine, Kept, keep, Ours, kept, sound, step-ours}
+use Rattle.printer.proofs.Keeping.{Kept, keep}
+use Rattle.printer.proofs.KeepingSteps.{Ours, kept, sound, step-ours}
 use Rattle.printer.proofs.Following.{forceOf, from, At, InStep, agree-control, agree, follow-control, follow}
 
 -- Claims, and two of them joined
@@ -118,7 +118,7 @@ module _ (p : Printer) (n : ℕ) (k j : Axis) (f : Follows p k j) where
 abbrev stepAfter : ℕ → Printer → Event → ℕ
 stepAfter n p (done c told) = enforce (forceOf (p .settings) (p .stops) n) c .step
 stepAfter n p (passed c reason) = n
-stepAfter n p (inside c told) = Reckoning.enforceControl (forceOf (p .settings) (p .stops) n) c .step
+stepAfter n p (inside c told) = InForce.enforceControl (forceOf (p .settings) (p .stops) n) c .step
 stepAfter n p (automatic told) = n
 
 -- an image byte's event is in step

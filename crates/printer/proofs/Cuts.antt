@@ -1,13 +1,12 @@
 -- Demand 2, cutting: calls leave the state and the records of the rules' steps over the bytes that they read.
-use Prim.Native.Nat.{ℕ, zero, suc, _+_, _*_, _-_, _≤_, _<_}
-use mathlib.Core.Path.{_≡_, refl, ap, _∙_, sym}
-use mathlib.Core.Bool.{Bool, true, false}
+use Prim.Native.Nat.{ℕ, zero, suc, _*_, _-_, _≤_}
+use mathlib.Core.Path.{_≡_, refl, ap, _∙_}
+use mathlib.Core.Bool.{true}
 use mathlib.Core.List.{List, [], _∷_, _++_, append-assoc}
 use native.Mathlib.Omega.{arith}
 use lib.Dec.{ltb}
 use lib.ListN.{length, take}
-use borrow.Author.Tests.{ltb-true, le-ltb}
-use Rattle.printer.specs.Tools.{pick}
+use borrow.Author.Tests.{le-ltb}
 use Rattle.printer.specs.Records.{recordSize, roomForByte, encodedAll}
 use Rattle.printer.specs.Bounds.{accepted}
 use Rattle.printer.specs.Steps.{stepOf, stepRecords, stateAfter, recordsOver}

@@ -1,27 +1,26 @@
 -- The reckoning follows the rules: after each event its settings, margins and stops are the state's, and its exact places the state's places.
-use Prim.Native.Nat.{ℕ, zero, suc, _+_, _*_, _-_, _/_, _%_, _≤_, _<_}
-use mathlib.Core.Path.{_≡_, refl, ap, _∙_, sym}
+use Prim.Native.Nat.{ℕ, zero, suc, _+_, _*_, _-_, _/_, _≤_, _<_}
+use mathlib.Core.Path.{_≡_, refl, ap}
 use mathlib.Core.Bool.{Bool, true, false}
-use mathlib.Core.List.{List, [], _∷_, _++_}
+use mathlib.Core.List.{[], _∷_}
 use mathlib.Core.Logic.{_⊎_, inl, inr, ⊎-elim}
 use native.Mathlib.Omega.{arith}
 use native.Mathlib.Nat.{div-add-mod'}
-use lib.Dec.{leb, ltb, eqb}
-use lib.ListN.{length, take}
-use borrow.Author.Tests.{leb-true, ltb-true, ltb-false, eqb-true, le-leb, lt-leb}
-use Rattle.printer.specs.Tools.{pick, either, within, _upTo_, Holds, Bytes}
+use lib.Dec.{leb, ltb}
+use borrow.Author.Tests.{leb-true, ltb-true, ltb-false, le-leb, lt-leb}
+use Rattle.printer.specs.Tools.{pick, within, _upTo_, Holds}
 use Rattle.printer.specs.Units.{perInchAcross, perInchDown}
 use Rattle.printer.specs.Widths.{imageStep}
 use Rattle.printer.specs.Settings.{leftOf, rightOf, pageOf, skipOf, lineOf, edgeOf, relativeStep, acrossOf, downOf, columnsOf, linesOf}
-use Rattle.printer.specs.PowerOn.{powerOn}
-use Rattle.printer.specs.Performing.{Event, done, passed, inside, automatic, stopAt, switchedOn, relativeMove, controlSettings, modeSettings, parameterSettings, settingsAfter, listOpened, stopAdded, listEnded, stopsAfter, controlPlace, placeAfter, doControl, perform}
-use Rattle.printer.specs.Deciding.{switches, inRange, controlNeeds, relativeNeeds, stopNeeds, needsAt}
+use Rattle.printer.specs.Performing.{switchedOn, relativeMove, controlSettings, modeSettings, parameterSettings, settingsAfter, listOpened, stopAdded, listEnded, stopsAfter, controlPlace, placeAfter}
+use Rattle.printer.specs.Deciding.{switches, inRange, controlNeeds, relativeNeeds, stopNeeds}
 use Rattle.printer.specs.Bounds.{StopsTyped}
+use Rattle.printer.specs.InForce
 use Rattle.printer.specs.Reckoning
-use Rattle.printer.specs.Reckoning.{InForce, Axis, Motion, moved, odd, enforceControl, enforceMode, enforceParameter, enforce, acrossByControl, acrossBy, downByControl, downBy, Reckoning, reckon}
+use Rattle.printer.specs.InForce.{InForce, odd, enforceControl, enforceMode, enforceParameter, enforce}
+use Rattle.printer.specs.Reckoning.{Axis, moved, acrossByControl, acrossBy, downByControl, downBy, Reckoning}
 use Rattle.printer.specs.declared.commands.Command.{Command}
 use Rattle.printer.specs.declared.commands.Control.{Control}
-use Rattle.printer.specs.declared.commands.Density.{Density}
 use Rattle.printer.specs.declared.commands.Mode.{Mode}
 use Rattle.printer.specs.declared.commands.Parameter.{Parameter}
 use Rattle.printer.specs.declared.commands.Tabs.{Tabs}
@@ -29,10 +28,10 @@ use Rattle.printer.specs.declared.settings.Settings.{Settings}
 use Rattle.printer.specs.declared.state.Place.{Place}
 use Rattle.printer.specs.declared.state.Printer.{Printer}
 use Rattle.printer.specs.declared.stops.Stops.{Stops}
-use Rattle.printer.proofs.Choices.{pick-elim, either-elim, within-fact}
+use Rattle.printer.proofs.Choices.{either-elim, within-fact}
 use Rattle.printer.proofs.StopLists.{one-more}
-use Rattle.printer.proofs.Legal.{InRange, Done, Legal}
-use Rattle.printer.proofs.Keeping.{Fine, Kept}
+use Rattle.printer.proofs.Legal.{Done}
+use Rattle.printer.proofs.Keeping.{Fine}
 
 -- what is in force by a state's settings and stops, and an image step
 abbrev pub forceOf : Settings → Stops → ℕ → InForce
@@ -134,17 +133,17 @@ module _ (s : Settings) (t : Stops) (n : ℕ) where
   agree-parameter Parameter.Font m r = (refl, refl)
   agree-parameter Parameter.Master m r = (refl, refl)
 
-  agree-opened : (k : Tabs) → Agrees s (Reckoning.openList here k) s (listOpened t k)
+  agree-opened : (k : Tabs) → Agrees s (InForce.openList here k) s (listOpened t k)
   agree-opened Tabs.Horizontal = (refl, refl)
   agree-opened Tabs.Vertical = (refl, refl)
 
-  agree-added : (k : Tabs) (b : ℕ) → StopsTyped t → Holds (stopNeeds s t k b) → Agrees s (Reckoning.addStop here k b) s (stopAdded s t k b)
+  agree-added : (k : Tabs) (b : ℕ) → StopsTyped t → Holds (stopNeeds s t k b) → Agrees s (InForce.addStop here k b) s (stopAdded s t k b)
   agree-added Tabs.Horizontal b y h =
       (rw (one-more (t .newcolumns .count) (t .newcolumns .stops) b (omega (arith, y .newcolumns))), refl)
   agree-added Tabs.Vertical b y h =
       (rw (one-more (t .newlines .count) (t .newlines .stops) (b * lineOf s) (omega (arith, y .newlines))), refl)
 
-  agree-ended : (k : Tabs) → Agrees s (Reckoning.endList here k) s (listEnded t k)
+  agree-ended : (k : Tabs) → Agrees s (InForce.endList here k) s (listEnded t k)
   agree-ended Tabs.Horizontal = (refl, refl)
   agree-ended Tabs.Vertical = (refl, refl)
 

@@ -1,7 +1,7 @@
 -- What is known of an event where it happens, and that the events that the rules decide have it.
-use Prim.Native.Nat.{ℕ, zero, suc, _+_, _*_, _-_, _/_, _≤_, _<_}
+use Prim.Native.Nat.{ℕ, suc, _+_, _*_, _≤_, _<_}
 use mathlib.Core.Path.{_≡_, refl, _∙_}
-use mathlib.Core.Bool.{Bool, true, false}
+use mathlib.Core.Bool.{Bool, true}
 use mathlib.Core.List.{List, [], _∷_, _++_}
 use native.Mathlib.Omega.{arith}
 use lib.Dec.{leb, ltb, eqb}
@@ -9,17 +9,16 @@ use native.Mathlib.Numerals.{add-one}
 use lib.ListN.{length, getD, length-append}
 use lib.Seq.{getD-append-seam, append-snoc}
 use borrow.Author.Tests.{leb-true, leb-false, ltb-true}
-use Rattle.printer.specs.Tools.{pick, within, holds, Holds, Bytes}
+use Rattle.printer.specs.Tools.{within, holds, Holds, Bytes}
 use Rattle.printer.specs.Settings.{acrossOf, leftOf, edgeOf, lineOf, downOf, columnsOf, linesOf}
-use Rattle.printer.specs.Performing.{Event, done, passed, inside, automatic, stopAt, perform, performAll}
-use Rattle.printer.specs.Deciding.{inRange, tabNeeds, verticalNeeds, lineNeeds, controlNeeds, needsAt, attempt, ranged, pagesOfLine, letterEvents, feedAfterReturn, Stop, found, missing, columnFrom, tabEvent, lineFrom, verticalEvents, vertical, controlEvents, decide}
+use Rattle.printer.specs.Performing.{Event, done, passed, inside, automatic, perform}
+use Rattle.printer.specs.Deciding.{inRange, tabNeeds, lineNeeds, controlNeeds, needsAt, attempt, ranged, pagesOfLine, letterEvents, feedAfterReturn, Stop, columnFrom, tabEvent, lineFrom, verticalEvents, vertical, controlEvents, decide}
 use Rattle.printer.specs.Bounds.{lastOf, listBounds}
 use Rattle.printer.specs.Spelling.{spelt}
 use Rattle.printer.specs.declared.commands.Command.{Command}
 use Rattle.printer.specs.declared.commands.Control.{Control}
 use Rattle.printer.specs.declared.commands.Tabs.{Tabs}
 use Rattle.printer.specs.declared.settings.Settings.{Settings}
-use Rattle.printer.specs.declared.state.Place.{Place}
 use Rattle.printer.specs.declared.state.Printer.{Printer}
 use Rattle.printer.specs.declared.stops.Stops.{Stops}
 use Rattle.printer.proofs.Choices.{pick-elim, holds-fact}

@@ -5,6 +5,7 @@ pub mod Spelling
 pub mod StopLists
 pub mod Legal
 pub mod Keeping
+pub mod KeepingSteps
 pub mod Bytes
 pub mod Writing
 pub mod Few
@@ -13,3 +14,5 @@ pub mod Following
 pub mod Claims
 pub mod CallLists
 pub mod ByHand
+pub mod LastSet
+pub mod Theorems

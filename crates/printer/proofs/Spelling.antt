@@ -1,16 +1,16 @@
 -- The commands that the steps report spell the bytes that were read, and a single byte is taken for what it is.
-use Prim.Native.Nat.{ℕ, _+_, _-_, _≤_, _<_}
-use mathlib.Core.Path.{_≡_, refl, ap, sym, _∙_}
+use Prim.Native.Nat.{ℕ, _-_, _≤_, _<_}
+use mathlib.Core.Path.{_≡_, refl, sym, _∙_}
 use mathlib.Core.Bool.{Bool, true, false}
 use mathlib.Core.List.{List, [], _∷_, _++_, map, append-assoc, append-nil}
 use mathlib.Core.Logic.{_⊎_, inl, inr}
 use native.Mathlib.Omega.{arith}
 use lib.Dec.{leb, eqb, ltb}
 use borrow.Author.Tests.{eqb-true, leb-false, leb-true}
-use Rattle.printer.specs.Tools.{pick, both, either, within, lookup, holds, Each}
-use Rattle.printer.specs.Codes.{controlCode, modeCode, oneCode, twoCode, listCode}
-use Rattle.printer.specs.Framing.{isLetter, readAs, firsts, seconds, firstOf, secondOf, oneCommand, twoCommand, afterTwo, imageWait, firstFrame, secondFrame, listFrame, frame}
-use Rattle.printer.specs.Performing.{Event, done, passed, inside, automatic, perform, performAll}
+use Rattle.printer.specs.Tools.{pick, both, within, lookup, holds, Each}
+use Rattle.printer.specs.Codes.{controlCode, oneCode, twoCode}
+use Rattle.printer.specs.Framing.{isLetter, readAs, firsts, seconds, firstOf, secondOf, oneCommand, twoCommand, afterTwo, imageWait, firstFrame, secondFrame, frame}
+use Rattle.printer.specs.Performing.{Event, done, passed, inside, automatic}
 use Rattle.printer.specs.Deciding.{attempt, ranged, letterEvents, feedAfterReturn, Stop, found, missing, columnFrom, tabEvent, lineFrom, verticalEvents, vertical, controlEvents, inRange, decide, pagesOfLine, needsAt}
 use Rattle.printer.specs.Settings.{acrossOf, leftOf, edgeOf, downOf, columnsOf, linesOf}
 use Rattle.printer.specs.Steps.{frameAt, eventsIn, nextIn, stepEvents, stepOf, stateAfter, eventsOver}
@@ -22,11 +22,10 @@ use Rattle.printer.specs.declared.commands.First.{First}
 use Rattle.printer.specs.declared.commands.Frame.{Frame}
 use Rattle.printer.specs.declared.commands.One.{One}
 use Rattle.printer.specs.declared.commands.Second.{Second}
-use Rattle.printer.specs.declared.commands.Tabs.{Tabs}
 use Rattle.printer.specs.declared.commands.Two.{Two}
 use Rattle.printer.specs.declared.commands.Waiting.{Waiting}
 use Rattle.printer.specs.declared.state.Printer.{Printer}
-use Rattle.printer.proofs.Choices.{pick-elim, both-left, both-right, either-elim, either-left, either-right, within-fact, each-append, each-map}
+use Rattle.printer.proofs.Choices.{pick-elim, both-right, either-elim, either-left, either-right, within-fact, each-append, each-map}
 
 -- a table's rule: two functions that agree on every entry, by a computed test, agree on what stands beside b
 pub lookup-agrees : {A : Type 0} (f g : ℕ → A → List ℕ) (l : List (ℕ × A)) (d : A) (b : ℕ)

@@ -1,13 +1,13 @@
 -- Lists of stops: one more at the end keeps the bounds.
-use Prim.Native.Nat.{ℕ, zero, suc, _+_, _*_, _≤_, _<_}
-use mathlib.Core.Path.{_≡_, refl, ap, sym, _∙_}
+use Prim.Native.Nat.{ℕ, _+_, _≤_, _<_}
+use mathlib.Core.Path.{_≡_, refl}
 use mathlib.Core.List.{List, [], _∷_, _++_}
 use native.Mathlib.Numerals.{add-one}
 use native.Mathlib.Omega.{arith}
 use lib.ListN.{length, take}
 use lib.ListN as ListN
 use lib.Seq.{take-suc-set}
-use Rattle.printer.specs.Tools.{Order, _upTo_, Holds}
+use Rattle.printer.specs.Tools.{Holds}
 use Rattle.printer.specs.Bounds.{ascending, lastOf, listBounds}
 
 ascending-snoc : (limit n : ℕ) (l : List ℕ) (m : ℕ) → Holds (ascending limit n l) → lastOf n l < m → m ≤ limit

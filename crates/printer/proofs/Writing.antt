@@ -1,26 +1,24 @@
 -- What events write: at most two records a byte, each of which fits its 14 bytes.
-use Prim.Native.Nat.{ℕ, zero, suc, _+_, _*_, _-_, _/_, _%_, _≤_, _<_}
+use Prim.Native.Nat.{ℕ, zero, suc, _+_, _*_, _/_, _≤_}
 use mathlib.Core.Path.{_≡_, refl}
 use mathlib.Core.Bool.{Bool, true, false}
-use mathlib.Core.List.{List, [], _∷_, _++_}
+use mathlib.Core.List.{List, [], _∷_}
 use native.Mathlib.Omega.{arith}
 use native.Mathlib.Nat.{div-add-mod', mul-le-mul-left}
-use lib.Dec.{leb, ltb, eqb}
-use lib.ListN.{length, length-append}
+use lib.Dec.{leb, eqb}
 use borrow.Author.Tests.{leb-true, eqb-true}
-use Rattle.printer.specs.Tools.{pick, either, within, holds, Holds, Bytes, Each}
+use Rattle.printer.specs.Tools.{pick, Holds, Bytes, Each}
 use Rattle.printer.specs.Widths.{base, doubleWidth, advance, imageStep}
 use Rattle.printer.specs.Records.{styleOf, letterRecord, imageRecord, feedRecord, clearRecord, passedRecord, newTop, FitsBytes}
 use Rattle.printer.specs.Codes.{codeOf}
-use Rattle.printer.specs.Units.{rounded, perInchAcross, perInchDown, columnDots, rowDots}
-use Rattle.printer.specs.Settings.{lineOf, edgeOf, acrossOf, downOf, columnsOf, linesOf}
-use Rattle.printer.specs.Performing.{Event, done, passed, inside, automatic, placeAfter, controlPlace, settingsAfter, controlRecords, commandRecords, recordsOf, recordsAll, perform}
-use Rattle.printer.specs.Deciding.{countries, inRange, controlNeeds, needsAt, attempt, ranged, pagesOfLine, letterEvents, feedAfterReturn, Stop, found, missing, columnFrom, tabEvent, lineFrom, verticalEvents, vertical, controlEvents, decide}
+use Rattle.printer.specs.Units.{columnDots, rowDots}
+use Rattle.printer.specs.Settings.{edgeOf, acrossOf, downOf}
+use Rattle.printer.specs.Performing.{Event, done, passed, inside, automatic, controlPlace, controlRecords, recordsOf, recordsAll, perform}
+use Rattle.printer.specs.Deciding.{countries, controlNeeds}
 use Rattle.printer.specs.Steps.{frameAt, eventsIn, stepEvents, stepRecords, stepOf, recordsOver}
 use Rattle.printer.specs.declared.commands.Command.{Command}
 use Rattle.printer.specs.declared.commands.Control.{Control}
 use Rattle.printer.specs.declared.commands.Density.{Density}
-use Rattle.printer.specs.declared.commands.Frame.{Frame}
 use Rattle.printer.specs.declared.settings.Pitch.{Pitch}
 use Rattle.printer.specs.declared.settings.Settings.{Settings}
 use Rattle.printer.specs.declared.settings.Width.{Width}
@@ -28,9 +26,10 @@ use Rattle.printer.specs.declared.state.Place.{Place}
 use Rattle.printer.specs.declared.state.Printer.{Printer}
 use Rattle.printer.specs.declared.stops.Stops.{Stops}
 use Rattle.printer.specs.declared.units.Resolution.{Resolution}
-use Rattle.printer.proofs.Choices.{pick-elim, either-elim, each-append}
-use Rattle.printer.proofs.Legal.{Done, Passed, Legal, LegalAll}
-use Rattle.printer.proofs.Keeping.{Fine, Kept, Ours, keep, keep-place, keep-control, kept, sound, step-ours}
+use Rattle.printer.proofs.Choices.{either-elim, each-append}
+use Rattle.printer.proofs.Legal.{Done, Legal, LegalAll}
+use Rattle.printer.proofs.Keeping.{Fine, Kept, keep, keep-place, keep-control}
+use Rattle.printer.proofs.KeepingSteps.{Ours, kept, sound, step-ours}
 
 flag-le : (on : Bool) (n : ℕ) → pick on n 0 ≤ n
 flag-le true n = omega arith

@@ -1,7 +1,7 @@
 -- Document 01, 'At every moment': what a state of ours is, as orders between numbers. Resolution, pitch and the command waited for are so by type.
 use Prim.Native.Nat.{ℕ, suc, _+_, _*_, _≤_}
 use mathlib.Core.Path.{_≡_}
-use mathlib.Core.Bool.{Bool, true, false}
+use mathlib.Core.Bool.{Bool}
 use mathlib.Core.List.{List, [], _∷_}
 use lib.ListN.{take, length}
 use Rattle.printer.specs.Tools.{pick, both, Order, _upTo_, holds, Holds}

@@ -1,11 +1,11 @@
 -- Document 01, 'Calls and their numbers': the start, the reading calls, and what each of them promises.
-use Prim.Native.Nat.{ℕ, zero, suc, _+_, _*_, _-_}
+use Prim.Native.Nat.{ℕ, zero, suc, _*_, _-_}
 use mathlib.Core.Path.{_≡_}
-use mathlib.Core.Bool.{Bool, true, false}
+use mathlib.Core.Bool.{Bool, false}
 use mathlib.Core.List.{List, [], _∷_, _++_}
 use lib.Dec.{ltb, eqb}
 use lib.ListN.{length, drop}
-use Rattle.printer.specs.Tools.{pick, Bytes}
+use Rattle.printer.specs.Tools.{pick}
 use Rattle.printer.specs.PowerOn.{powerOn}
 use Rattle.printer.specs.Records.{recordSize, roomForByte, encodedAll}
 use Rattle.printer.specs.Steps.{stepOf, stepRecords}

@@ -1,7 +1,7 @@
 -- Document 01, 'Checked by hand': the table, and what each case comes to from power-on.
 use Prim.Native.Nat.{ℕ, _*_}
 use mathlib.Core.Path.{_≡_}
-use mathlib.Core.Bool.{Bool, true, false}
+use mathlib.Core.Bool.{false}
 use mathlib.Core.List.{List, [], _∷_, _++_, map}
 use lib.ListN.{length, take, drop, replicate}
 use Rattle.printer.specs.Records.{roomForByte, decodedAll}

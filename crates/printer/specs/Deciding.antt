@@ -1,9 +1,9 @@
 -- Document 01, 'Widths' and 'Commands': which commands are done and which are passed over.
-use Prim.Native.Nat.{ℕ, zero, suc, _+_, _*_, _-_, _/_, _≤_}
-use mathlib.Core.Bool.{Bool, true, false}
+use Prim.Native.Nat.{ℕ, zero, suc, _+_, _*_, _-_, _/_}
+use mathlib.Core.Bool.{Bool, true}
 use mathlib.Core.List.{List, [], _∷_}
 use lib.Dec.{leb, ltb, eqb}
-use Rattle.printer.specs.Tools.{pick, both, either, within, Order, _upTo_, holds}
+use Rattle.printer.specs.Tools.{pick, either, within, Order, _upTo_, holds}
 use Rattle.printer.specs.Widths.{advance, columnWidth, imageStep}
 use Rattle.printer.specs.Settings.{leftOf, rightOf, pageOf, lineOf, edgeOf, relativeStep, acrossOf, downOf, columnsOf, linesOf}
 use Rattle.printer.specs.Performing.{Event, done, passed, inside, automatic, stopAt, perform}

@@ -13,6 +13,7 @@ pub mod Spelling
 pub mod Bounds
 pub mod Calls
 pub mod Cutting
+pub mod InForce
 pub mod Reckoning
 pub mod Demand3
 pub mod Cases

@@ -1,5 +1,5 @@
 -- Document 01, 'Commands': what a command that is done leaves, and what it writes.
-use Prim.Native.Nat.{ℕ, zero, suc, _+_, _*_, _-_, _/_, _%_}
+use Prim.Native.Nat.{ℕ, zero, suc, _+_, _*_, _-_, _%_}
 use mathlib.Core.Bool.{Bool, true, false}
 use mathlib.Core.List.{List, [], _∷_, _++_}
 use lib.Dec.{ltb, eqb}
@@ -9,7 +9,7 @@ use Rattle.printer.specs.Tools.{pick, either, bit}
 use Rattle.printer.specs.Units.{units}
 use Rattle.printer.specs.Widths.{advance, columnWidth, imageStep}
 use Rattle.printer.specs.Settings
-use Rattle.printer.specs.Settings.{leftOf, rightOf, pageOf, lineOf, edgeOf, relativeStep, acrossOf, downOf, at, columnsOf, linesOf}
+use Rattle.printer.specs.Settings.{leftOf, rightOf, lineOf, edgeOf, relativeStep, acrossOf, downOf, at, columnsOf, linesOf}
 use Rattle.printer.specs.PowerOn.{powerOnSettings, powerOnStops, noColumns, noLines}
 use Rattle.printer.specs.Records.{letterRecord, imageRecord, feedRecord, clearRecord, passedRecord, newTop}
 use Rattle.printer.specs.Codes.{codeOf}
@@ -19,7 +19,6 @@ use Rattle.printer.specs.declared.commands.Mode.{Mode}
 use Rattle.printer.specs.declared.commands.Parameter.{Parameter}
 use Rattle.printer.specs.declared.commands.Tabs.{Tabs}
 use Rattle.printer.specs.declared.records.Record.{Record}
-use Rattle.printer.specs.declared.settings.Paper.{Paper}
 use Rattle.printer.specs.declared.settings.Pitch.{Pitch}
 use Rattle.printer.specs.declared.settings.Settings.{Settings}
 use Rattle.printer.specs.declared.settings.Width.{Width}

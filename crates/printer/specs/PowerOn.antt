@@ -1,7 +1,6 @@
 -- Document 01, 'Power-on and ESC @'.
-use Prim.Native.Nat.{ℕ}
-use mathlib.Core.Bool.{Bool, true, false}
-use mathlib.Core.List.{List, [], _∷_, _++_}
+use mathlib.Core.Bool.{true, false}
+use mathlib.Core.List.{[], _∷_, _++_}
 use lib.ListN.{replicate}
 use Rattle.printer.specs.Units.{units}
 use Rattle.printer.specs.Settings.{at}

@@ -1,11 +1,11 @@
 -- Document 01, 'Records': the fields, their 14 bytes, and the bytes read back.
 use Prim.Native.Nat.{ℕ, zero, suc, _+_, _*_, _/_, _%_, _≤_}
-use mathlib.Core.Bool.{Bool, true, false}
+use mathlib.Core.Bool.{Bool}
 use mathlib.Core.List.{List, [], _∷_, _++_}
 use lib.Dec.{eqb}
 use lib.ListN.{length, getD, take, drop}
 use Rattle.printer.specs.Tools.{pick, both}
-use Rattle.printer.specs.Units.{units, dots, columnDots, rowDots}
+use Rattle.printer.specs.Units.{units, columnDots, rowDots}
 use Rattle.printer.specs.Widths.{advance, doubleWidth}
 use Rattle.printer.specs.Settings.{acrossOf, downOf}
 use Rattle.printer.specs.declared.records.Mark.{Mark}

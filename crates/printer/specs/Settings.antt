@@ -8,9 +8,7 @@ use Rattle.printer.specs.Units.{units}
 use Rattle.printer.specs.declared.settings.Pitch.{Pitch}
 use Rattle.printer.specs.declared.settings.Width.{Width}
 use Rattle.printer.specs.declared.settings.Emphasis.{Emphasis}
-use Rattle.printer.specs.declared.settings.Script.{Script}
 use Rattle.printer.specs.declared.settings.Face.{Face}
-use Rattle.printer.specs.declared.settings.Margins.{Margins}
 use Rattle.printer.specs.declared.settings.Paper.{Paper}
 use Rattle.printer.specs.declared.settings.Settings.{Settings}
 use Rattle.printer.specs.declared.state.Place.{Place}

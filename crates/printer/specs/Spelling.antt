@@ -3,7 +3,6 @@ use Prim.Native.Nat.{ℕ, _+_, _≤_}
 use mathlib.Core.Path.{_≡_}
 use mathlib.Core.List.{List, [], _∷_, _++_}
 use mathlib.Core.Logic.{_⊎_}
-use Rattle.printer.specs.Tools.{Each}
 use Rattle.printer.specs.Codes.{controlCode, oneCode, twoCode, codeOf}
 use Rattle.printer.specs.Performing.{Event, done, passed, inside, automatic}
 use Rattle.printer.specs.declared.commands.Command.{Command}
