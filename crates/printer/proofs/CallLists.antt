@@ -12,11 +12,11 @@ use Rattle.printer.specs.Records.{recordSize, roomForByte, encodedAll, F
 use Rattle.printer.specs.Steps.{recordsOver, stepOf, stepRecords}
 use Rattle.printer.specs.PowerOn.{powerOn}
 use Rattle.printer.specs.Calls
-use Rattle.printer.specs.Calls.{numberOf, setup, startOf, Run, runOf, callOf, readingOf, outputOf, countsOf}
+use Rattle.printer.specs.Calls.{numberOf, setup, startOf, Run, runOf, callOf, readingOf, outputOf}
 use Rattle.printer.specs.Reckoning.{origin, begun, Axis, printed}
 use Rattle.printer.specs.Demand3.{StartCall, ReadCall, Manner, byValue, lent, Call, started, read, ReadingPromise, Chain, bytesOf, rulesAfter, occurrences, OwnCall, Own, NotFour, writtenBy, joined, Demand3}
 use Rattle.printer.specs.declared.answers.Answer.{Answer}
-use Rattle.printer.specs.declared.answers.Counts.{Counts}
+use Rattle.printer.specs.declared.answers.Report.{Report}
 use Rattle.printer.specs.declared.answers.Reading.{Reading}
 use Rattle.printer.specs.declared.answers.Started.{Started}
 use Rattle.printer.specs.declared.records.Record.{Record}
@@ -76,19 +76,19 @@ call-number p input allowance room o = rw (fact-accepted p (o .accepted)) (run-n
 
 -- either promise says the same of what came back
 own-promise : (m : Manner) (c : ReadCall) → ReadingPromise m c
-    → (c .back ≡ countsOf (readingOf (c .state) (c .input) (c .allowance) (length (c .out))))
+    → (c .back ≡ readingOf (c .state) (c .input) (c .allowance) (length (c .out)) .report)
     × (c .left ≡ readingOf (c .state) (c .input) (c .allowance) (length (c .out)) .printer)
     × (c .after ≡ outputOf (c .state) (c .input) (c .allowance) (c .out))
-own-promise byValue c h = (ap countsOf (h .gives), ap (λ (r : Reading). r .printer) (h .gives), h .output)
+own-promise byValue c h = (ap (λ (r : Reading). r .report) (h .gives), ap (λ (r : Reading). r .printer) (h .gives), h .output)
 own-promise lent c h = (h .gives, h .state, h .output)
 
 own-call : (p : Printer) (m : Manner) (c : ReadCall) → c .state ≡ p → ReadingPromise m c → OwnCall p (read m c)
 own-call p m c e h =
     let q = own-promise m c h in
-    let back : c .back ≡ countsOf (readingOf p (c .input) (c .allowance) (length (c .out))) = rw e at (q .0) in
+    let back : c .back ≡ readingOf p (c .input) (c .allowance) (length (c .out)) .report = rw e at (q .0) in
     let left : c .left ≡ readingOf p (c .input) (c .allowance) (length (c .out)) .printer = rw e at (q .1) in
     let steps = call-steps p (c .input) (c .allowance) (length (c .out)) in
-    let read : c .back .read ≡ readingOf p (c .input) (c .allowance) (length (c .out)) .read = ap (λ (n : Counts). n .read) back in
+    let read : c .back .read ≡ readingOf p (c .input) (c .allowance) (length (c .out)) .report .read = ap (λ (n : Report). n .read) back in
     (e, back, rw read (left ∙ steps .state), rw e at (q .2))
 
 -- what a call wrote is the bytes of the rules' records

@@ -54,8 +54,8 @@ call-steps p input allowance room =
 
 -- the bytes that a call writes
 pub call-writes : (p : Printer) (input : List ℕ) (allowance : ℕ) (out : List ℕ)
-    → take (readingOf p input allowance (length out) .written) (outputOf p input allowance out)
-    ≡ encodedAll (recordsOver p (take (readingOf p input allowance (length out) .read) input))
+    → take (readingOf p input allowance (length out) .report .written) (outputOf p input allowance out)
+    ≡ encodedAll (recordsOver p (take (readingOf p input allowance (length out) .report .read) input))
 call-writes p input allowance out =
     written-part (callOf p input allowance (length out) .records) _
     ∙ ap encodedAll (call-steps p input allowance (length out) .records)
@@ -80,7 +80,7 @@ pieces-state p [] = refl
 pieces-state p (c ∷ l) =
     let v = answerTo p c in
     let h = call-steps p (c .bytes) (c .allowance) (length (c .out)) in
-    cc (h .state, pieces-state (v .printer) l, state-append p (take (v .read) (c .bytes)) (bytesRead (v .printer) l))
+    cc (h .state, pieces-state (v .printer) l, state-append p (take (v .report .read) (c .bytes)) (bytesRead (v .printer) l))
 
 pub pieces-output : (p : Printer) (l : List Piece) → joinedOutput p l ≡ encodedAll (recordsOver p (bytesRead p l))
 unfolding joinedOutput bytesRead recordsOver encodedAll
@@ -88,7 +88,7 @@ pieces-output p [] = refl
 pieces-output p (c ∷ l) =
     let v = answerTo p c in
     let h = call-steps p (c .bytes) (c .allowance) (length (c .out)) in
-    let x : List ℕ = take (v .read) (c .bytes) in
+    let x : List ℕ = take (v .report .read) (c .bytes) in
     let y : List ℕ = bytesRead (v .printer) l in
     cc (h .state, call-writes p (c .bytes) (c .allowance) (c .out), pieces-output (v .printer) l, records-append p x y, encodedAll-append (recordsOver p x) (recordsOver (stateAfter p x) y))
 
@@ -130,6 +130,6 @@ run-reads p (b ∷ l) (suc allowance) room h k =
 
 pub enough-reads : (p : Printer) (input : List ℕ) (allowance : ℕ) (out : List ℕ) → accepted p ≡ true
     → length input ≤ allowance → roomForByte * length input ≤ length out
-    → readingOf p input allowance (length out) .answer ≡ Answer.InputUsed
+    → readingOf p input allowance (length out) .report .answer ≡ Answer.InputUsed
 unfolding callOf
 enough-reads p input allowance out e h k = rw e (run-reads p input allowance (length out) h k)

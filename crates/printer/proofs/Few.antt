@@ -7,7 +7,8 @@ use lib.ListN.{length, length-append}
 use Rattle.printer.specs.Tools.{holds}
 use Rattle.printer.specs.Settings.{leftOf, edgeOf, acrossOf, downOf, linesOf}
 use Rattle.printer.specs.Performing.{Event, done, passed, inside, automatic, controlRecords, commandRecords, recordsOf, recordsAll, perform}
-use Rattle.printer.specs.Deciding.{needsAt, pagesOfLine, letterEvents, feedAfterReturn, Stop, found, missing, lineFrom, verticalEvents, vertical, controlEvents, decide}
+use Rattle.printer.specs.Deciding.{needsAt, pagesOfLine, letterEvents, feedAfterReturn, lineFrom, verticalEvents, vertical, controlEvents, decide}
+use Rattle.printer.specs.declared.stops.Stop.{Stop}
 use Rattle.printer.specs.Steps.{frameAt, eventsIn, stepEvents, stepRecords}
 use Rattle.printer.specs.declared.commands.Command.{Command}
 use Rattle.printer.specs.declared.commands.Control.{Control}
@@ -88,8 +89,8 @@ few-letter p b =
     (λ _. pick-elim (Few 2 p) (eqb (acrossOf (p .place)) (leftOf (p .settings))) (λ _. few-one p _) (λ _. few-two p _ _))
 
 few-stop : (p : Printer) (c : Command) (x : Stop) → Few 2 p (verticalEvents p c x)
-few-stop p c (found k n) = pick-elim (Few 2 p) (ltb n (edgeOf (p .settings))) (λ _. few-one p _) (λ _. few-two p _ _)
-few-stop p c missing = few-two p _ _
+few-stop p c (Stop.Found k n) = pick-elim (Few 2 p) (ltb n (edgeOf (p .settings))) (λ _. few-one p _) (λ _. few-two p _ _)
+few-stop p c Stop.Missing = few-two p _ _
 
 -- VT and the CR performed inside it write nothing
 few-vertical : (p : Printer) (b : ℕ) → Few 2 p (vertical p (Command.Control Control.VerticalTab b))

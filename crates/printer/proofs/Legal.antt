@@ -12,7 +12,8 @@ use borrow.Author.Tests.{leb-true, leb-false, ltb-true}
 use Rattle.printer.specs.Tools.{within, holds, Holds, Bytes}
 use Rattle.printer.specs.Settings.{acrossOf, leftOf, edgeOf, lineOf, downOf, columnsOf, linesOf}
 use Rattle.printer.specs.Performing.{Event, done, passed, inside, automatic, perform}
-use Rattle.printer.specs.Deciding.{inRange, tabNeeds, lineNeeds, controlNeeds, needsAt, attempt, ranged, pagesOfLine, letterEvents, feedAfterReturn, Stop, columnFrom, tabEvent, lineFrom, verticalEvents, vertical, controlEvents, decide}
+use Rattle.printer.specs.Deciding.{inRange, tabNeeds, lineNeeds, controlNeeds, needsAt, attempt, ranged, pagesOfLine, letterEvents, feedAfterReturn, columnFrom, tabEvent, lineFrom, verticalEvents, vertical, controlEvents, decide}
+use Rattle.printer.specs.declared.stops.Stop.{Stop}
 use Rattle.printer.specs.Bounds.{lastOf, listBounds}
 use Rattle.printer.specs.Spelling.{spelt}
 use Rattle.printer.specs.declared.commands.Command.{Command}

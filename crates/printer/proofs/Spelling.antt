@@ -11,7 +11,8 @@ use Rattle.printer.specs.Tools.{pick, both, within, lookup, holds, Each}
 use Rattle.printer.specs.Codes.{controlCode, oneCode, twoCode}
 use Rattle.printer.specs.Framing.{isLetter, readAs, firsts, seconds, firstOf, secondOf, oneCommand, twoCommand, afterTwo, imageWait, firstFrame, secondFrame, frame}
 use Rattle.printer.specs.Performing.{Event, done, passed, inside, automatic}
-use Rattle.printer.specs.Deciding.{attempt, ranged, letterEvents, feedAfterReturn, Stop, found, missing, columnFrom, tabEvent, lineFrom, verticalEvents, vertical, controlEvents, inRange, decide, pagesOfLine, needsAt}
+use Rattle.printer.specs.Deciding.{attempt, ranged, letterEvents, feedAfterReturn, columnFrom, tabEvent, lineFrom, verticalEvents, vertical, controlEvents, inRange, decide, pagesOfLine, needsAt}
+use Rattle.printer.specs.declared.stops.Stop.{Stop}
 use Rattle.printer.specs.Settings.{acrossOf, leftOf, edgeOf, downOf, columnsOf, linesOf}
 use Rattle.printer.specs.Steps.{frameAt, eventsIn, nextIn, stepEvents, stepOf, stateAfter, eventsOver}
 use Rattle.printer.specs.Spelling.{spelt, pending, StandsFor, Genuine, speltBy, speltAll, GenuineEvent}
@@ -236,8 +237,8 @@ silent-feed c p =
     (λ _. record { spells = refl; own = tt })
 
 of-tab : (c : Command) (x : Stop) → OfCommand c (tabEvent c x ∷ [])
-of-tab c (found k n) = of-done c k
-of-tab c missing = of-passed c 5
+of-tab c (Stop.Found k n) = of-done c k
+of-tab c Stop.Missing = of-passed c 5
 
 of-inside : (c : Command) (x : Control) (told : ℕ) (l : List Event) → Silent c l → OfCommand c (done c 0 ∷ inside x told ∷ l)
 unfolding speltAll
@@ -249,9 +250,9 @@ unfolding speltAll
 nothing c = record { spells = refl; own = tt }
 
 of-stop : (p : Printer) (c : Command) (x : Stop) → OfCommand c (verticalEvents p c x)
-of-stop p c (found k n) =
+of-stop p c (Stop.Found k n) =
     pick-elim (OfCommand c) (ltb n (edgeOf (p .settings))) (λ _. of-done c k) (λ _. of-inside c Control.FormFeed 0 [] (nothing c))
-of-stop p c missing = of-inside c Control.FormFeed 0 [] (nothing c)
+of-stop p c Stop.Missing = of-inside c Control.FormFeed 0 [] (nothing c)
 
 of-vertical : (p : Printer) (c : Command) → OfCommand c (vertical p c)
 unfolding vertical

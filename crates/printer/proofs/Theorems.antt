@@ -111,7 +111,7 @@ cutting p l m e h k =
 -- and a call with allowance and room enough does read to its end
 pub reads-to-end : (p : Printer) (input : List ℕ) (allowance : ℕ) (out : List ℕ) → accepted p ≡ true
     → length input ≤ allowance → roomForByte * length input ≤ length out
-    → readingOf p input allowance (length out) .answer ≡ Answer.InputUsed
+    → readingOf p input allowance (length out) .report .answer ≡ Answer.InputUsed
 reads-to-end p input allowance out e h k = enough-reads p input allowance out e h k
 
 -- 5. Demand 3

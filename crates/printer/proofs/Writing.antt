@@ -35,9 +35,9 @@ flag-le : (on : Bool) (n : ℕ) → pick on n 0 ≤ n
 flag-le true n = omega arith
 flag-le false n = omega arith
 
-pub style-fits : (s : Settings) → s .face .outline ≤ 3 → styleOf s ≤ 65535
+pub style-fits : (s : Settings) → styleOf s ≤ 65535
 unfolding styleOf
-style-fits s h =
+style-fits s =
     omega (arith, flag-le (s .emphasis .bold) 0x1, flag-le (s .emphasis .doublestrike) 0x2, flag-le (s .emphasis .italic) 0x4, flag-le (s .emphasis .underline) 0x8, flag-le (s .script .superscript) 0x10, flag-le (s .script .subscript) 0x20, flag-le (doubleWidth (s .width)) 0x40, flag-le (s .face .doubleheight) 0x80, flag-le (s .width .proportional) 0x400, flag-le (s .width .reduced) 0x800, flag-le (s .face .italictable) 0x1000, flag-le (s .face .download) 0x2000)
 
 base-le : (p : Pitch) (reduced proportional : Bool) → base p reduced proportional ≤ 360
@@ -86,7 +86,7 @@ letter-fits s x b h f =
       row = row-fits (s .setup .resolution) (downOf x) (omega arith);
       byte = h;
       font = f .2;
-      style = style-fits s (omega arith);
+      style = style-fits s;
       country = country-fits (s .face .country) (omega arith);
       advance = omega arith;
     }

@@ -11,7 +11,7 @@ use Rattle.printer.specs.Records.{recordSize, roomForByte, encodedAll}
 use Rattle.printer.specs.Steps.{stepOf, stepRecords}
 use Rattle.printer.specs.Bounds.{accepted}
 use Rattle.printer.specs.declared.answers.Answer.{Answer}
-use Rattle.printer.specs.declared.answers.Counts.{Counts}
+use Rattle.printer.specs.declared.answers.Report.{Report}
 use Rattle.printer.specs.declared.answers.Reading.{Reading}
 use Rattle.printer.specs.declared.answers.Started.{Started}
 use Rattle.printer.specs.declared.records.Record.{Record}
@@ -73,14 +73,16 @@ runOf p (b ∷ l) (suc allowance) room =
 unfoldable pub callOf : Printer → (input : List ℕ) → (allowance room : ℕ) → Run
 callOf p input allowance room = pick (accepted p) (runOf p input allowance room) (stopped Answer.StateRefused p)
 
+-- what a run reports
+abbrev pub reportOf : Run → Report
+reportOf v = record { answer = v .answer; read = v .read; written = recordSize * length (v .records) }
+
 -- what the call by value gives back
 abbrev pub readingOf : Printer → List ℕ → ℕ → ℕ → Reading
 readingOf p input allowance room =
     record {
-      answer = callOf p input allowance room .answer;
+      report = reportOf (callOf p input allowance room);
       printer = callOf p input allowance room .printer;
-      read = callOf p input allowance room .read;
-      written = recordSize * length (callOf p input allowance room .records);
     }
 
 -- what the output holds after the call: the records, and past them what it held
@@ -88,9 +90,6 @@ abbrev pub outputOf : Printer → List ℕ → ℕ → List ℕ → List ℕ
 outputOf p input allowance out =
     encodedAll (callOf p input allowance (length out) .records)
     ++ drop (recordSize * length (callOf p input allowance (length out) .records)) out
-
-abbrev pub countsOf : Reading → Counts
-countsOf r = record { answer = r .answer; read = r .read; written = r .written }
 
 -- The promises
 
@@ -106,7 +105,7 @@ pub record ReadPromise
 
 -- the same of the call to which the state is lent, with the state that it leaves
 pub record LentPromise
-    (p : Printer) (input : List ℕ) (allowance : ℕ) (out : List ℕ) (back : Counts) (left : Printer) (after : List ℕ) : Type 0 where
-  pub gives : back ≡ countsOf (readingOf p input allowance (length out))
+    (p : Printer) (input : List ℕ) (allowance : ℕ) (out : List ℕ) (back : Report) (left : Printer) (after : List ℕ) : Type 0 where
+  pub gives : back ≡ readingOf p input allowance (length out) .report
   pub state : left ≡ readingOf p input allowance (length out) .printer
   pub output : after ≡ outputOf p input allowance out

@@ -13,7 +13,7 @@ use Rattle.printer.specs.declared.state.Printer.{Printer}
 -- the bytes that reading an input from power-on writes, with allowance and room enough
 abbrev pub bytesFrom : Printer → List ℕ → List ℕ
 bytesFrom p input =
-    take (readingOf p input (length input) (roomForByte * length input) .written)
+    take (readingOf p input (length input) (roomForByte * length input) .report .written)
     (outputOf p input (length input) (replicate (roomForByte * length input) 0))
 
 abbrev pub bytesAt : (resolution : ℕ) → List ℕ → List ℕ

@@ -30,14 +30,14 @@ lastState p (c ∷ l) = lastState (answerTo p c .printer) l
 unfoldable pub joinedOutput : Printer → List Piece → List ℕ
 joinedOutput p [] = []
 joinedOutput p (c ∷ l) =
-    take (answerTo p c .written) (outputOf p (c .bytes) (c .allowance) (c .out))
+    take (answerTo p c .report .written) (outputOf p (c .bytes) (c .allowance) (c .out))
     ++ joinedOutput (answerTo p c .printer) l
 
 unfoldable pub bytesRead : Printer → List Piece → List ℕ
 bytesRead p [] = []
-bytesRead p (c ∷ l) = take (answerTo p c .read) (c .bytes) ++ bytesRead (answerTo p c .printer) l
+bytesRead p (c ∷ l) = take (answerTo p c .report .read) (c .bytes) ++ bytesRead (answerTo p c .printer) l
 
 -- each piece is read to its end
 abbrev pub ReadToEnd : Printer → List Piece → Type 0
 ReadToEnd p [] = Unit
-ReadToEnd p (c ∷ l) = (answerTo p c .answer ≡ Answer.InputUsed) × ReadToEnd (answerTo p c .printer) l
+ReadToEnd p (c ∷ l) = (answerTo p c .report .answer ≡ Answer.InputUsed) × ReadToEnd (answerTo p c .printer) l

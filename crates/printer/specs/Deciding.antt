@@ -17,6 +17,7 @@ use Rattle.printer.specs.declared.settings.Settings.{Settings}
 use Rattle.printer.specs.declared.settings.Width.{Width}
 use Rattle.printer.specs.declared.state.Place.{Place}
 use Rattle.printer.specs.declared.state.Printer.{Printer}
+use Rattle.printer.specs.declared.stops.Stop.{Stop}
 use Rattle.printer.specs.declared.stops.Stops.{Stops}
 
 -- Range: reason 2
@@ -193,24 +194,19 @@ letterEvents p b =
 unfoldable pub feedAfterReturn : Printer → List Event
 feedAfterReturn p = pick (p .settings .setup .autofeed) (inside Control.LineFeed (pagesOfLine p) ∷ []) []
 
--- the search for a stop: its number, counted from 1, and what stands there
-pub data Stop : Type 0 where
-  found : (number stop : ℕ) → Stop
-  missing : Stop
-
--- HT: the first stop above across and not past right; the list's first is the k-th
+-- HT: the first stop above across and not past right, by its number; the list's first is the k-th
 unfoldable pub columnFrom : Settings → Place → ℕ → List ℕ → Stop
-columnFrom s x k [] = missing
-columnFrom s x k (n ∷ l) = pick (holds (tabNeeds s x n)) (found k n) (columnFrom s x (suc k) l)
+columnFrom s x k [] = Stop.Missing
+columnFrom s x k (n ∷ l) = pick (holds (tabNeeds s x n)) (Stop.Found k n) (columnFrom s x (suc k) l)
 
 abbrev pub tabEvent : Command → Stop → Event
-tabEvent c (found k n) = done c k
-tabEvent c missing = passed c 5
+tabEvent c (Stop.Found k n) = done c k
+tabEvent c Stop.Missing = passed c 5
 
 -- VT: the first stop greater than down
 unfoldable pub lineFrom : ℕ → ℕ → List ℕ → Stop
-lineFrom down k [] = missing
-lineFrom down k (n ∷ l) = pick (ltb down n) (found k n) (lineFrom down (suc k) l)
+lineFrom down k [] = Stop.Missing
+lineFrom down k (n ∷ l) = pick (ltb down n) (Stop.Found k n) (lineFrom down (suc k) l)
 
 -- VT performed as another command
 abbrev pub formInside : Command → List Event
@@ -218,8 +214,8 @@ formInside c = done c 0 ∷ inside Control.FormFeed 0 ∷ []
 
 -- go to the stop; if there is none, or it is at or past the edge: FF
 abbrev pub verticalEvents : Printer → Command → Stop → List Event
-verticalEvents p c (found k n) = pick (ltb n (edgeOf (p .settings))) (done c k ∷ []) (formInside c)
-verticalEvents p c missing = formInside c
+verticalEvents p c (Stop.Found k n) = pick (ltb n (edgeOf (p .settings))) (done c k ∷ []) (formInside c)
+verticalEvents p c Stop.Missing = formInside c
 
 -- never set: LF; list empty: CR; else the search
 unfoldable pub vertical : Printer → Command → List Event

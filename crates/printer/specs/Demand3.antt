@@ -8,9 +8,9 @@ use Rattle.printer.specs.Tools.{Each, Bytes}
 use Rattle.printer.specs.Units.{rounded}
 use Rattle.printer.specs.Records.{decodedAll}
 use Rattle.printer.specs.Steps.{stateAfter, eventsOver}
-use Rattle.printer.specs.Calls.{numberOf, startOf, readingOf, outputOf, countsOf, StartPromise, ReadPromise, LentPromise}
+use Rattle.printer.specs.Calls.{numberOf, startOf, readingOf, outputOf, StartPromise, ReadPromise, LentPromise}
 use Rattle.printer.specs.Reckoning.{Occurrence, start, event, begun, Printed, printed, exact}
-use Rattle.printer.specs.declared.answers.Counts.{Counts}
+use Rattle.printer.specs.declared.answers.Report.{Report}
 use Rattle.printer.specs.declared.answers.Reading.{Reading}
 use Rattle.printer.specs.declared.answers.Started.{Started}
 use Rattle.printer.specs.declared.records.Mark.{Mark}
@@ -31,7 +31,7 @@ pub record ReadCall : Type 0 where
   pub input : List ℕ
   pub allowance : ℕ
   pub out : List ℕ
-  pub back : Counts
+  pub back : Report
   pub left : Printer
   pub after : List ℕ
 
@@ -46,7 +46,7 @@ pub data Call : Type 0 where
 -- what the call by value gave back, put together
 abbrev pub readingBack : ReadCall → Reading
 readingBack c =
-    record { answer = c .back .answer; printer = c .left; read = c .back .read; written = c .back .written }
+    record { report = c .back; printer = c .left }
 
 abbrev pub ReadingPromise : Manner → ReadCall → Type 0
 ReadingPromise byValue c = ReadPromise (c .state) (c .input) (c .allowance) (c .out) (readingBack c) (c .after)
@@ -84,7 +84,7 @@ abbrev pub OwnCall : Printer → Call → Type 0
 OwnCall p (started c) = c .back ≡ startOf (c .resolution) (c .autofeed)
 OwnCall p (read m c) =
     (c .state ≡ p)
-    × (c .back ≡ countsOf (readingOf p (c .input) (c .allowance) (length (c .out))))
+    × (c .back ≡ readingOf p (c .input) (c .allowance) (length (c .out)) .report)
     × (c .left ≡ stateAfter p (bytesOf c))
     × (c .after ≡ outputOf p (c .input) (c .allowance) (c .out))
 

@@ -32,7 +32,7 @@ styleOf s =
     flag (s .emphasis .bold) 0x1 + flag (s .emphasis .doublestrike) 0x2 + flag (s .emphasis .italic) 0x4
     + flag (s .emphasis .underline) 0x8 + flag (s .script .superscript) 0x10
     + flag (s .script .subscript) 0x20 + flag (doubleWidth (s .width)) 0x40
-    + flag (s .face .doubleheight) 0x80 + s .face .outline * 0x100
+    + flag (s .face .doubleheight) 0x80 + s .face .outline % 4 * 0x100
     + flag (s .width .proportional) 0x400 + flag (s .width .reduced) 0x800
     + flag (s .face .italictable) 0x1000 + flag (s .face .download) 0x2000
 

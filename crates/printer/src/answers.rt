@@ -32,17 +32,15 @@ pub struct Started {
     pub printer: Printer,
 }
 
-// What the reading call by value gives back: the counts are in bytes.
-pub struct Reading {
+// What a reading call reports: its answer, and how many bytes it read and wrote.
+pub struct Report {
     pub answer: Answer,
-    pub printer: Printer,
     pub read: usize,
     pub written: usize,
 }
 
-// What the reading call gives back to which the state is lent.
-pub struct Counts {
-    pub answer: Answer,
-    pub read: usize,
-    pub written: usize,
+// What the reading call by value gives back.
+pub struct Reading {
+    pub report: Report,
+    pub printer: Printer,
 }

@@ -26,6 +26,12 @@ pub struct Stops {
     pub newlines: Lines,
 }
 
+// What a search among stops finds: the stop's number, counted from 1, and where it is.
+pub enum Stop {
+    Found(usize, u32),
+    Missing,
+}
+
 impl Columns {
     // How many stops there is room for.
     pub const MOST: usize = 32;
