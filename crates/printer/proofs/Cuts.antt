@@ -1,17 +1,17 @@
 -- Demand 2, cutting: calls leave the state and the records of the rules' steps over the bytes that they read.
 use Prim.Native.Nat.{ℕ, zero, suc, _*_, _-_, _≤_}
-use mathlib.Core.Path.{_≡_, refl, ap, _∙_}
+use mathlib.Core.Path.{sym, _≡_, refl, ap, _∙_}
 use mathlib.Core.Bool.{true}
 use mathlib.Core.List.{List, [], _∷_, _++_, append-assoc}
 use native.Mathlib.Omega.{arith}
 use lib.Dec.{ltb}
-use lib.ListN.{length, take}
+use lib.ListN.{length, take, drop, take-append-drop}
 use borrow.Author.Tests.{le-ltb}
 use Rattle.printer.specs.Records.{recordSize, roomForByte, encodedAll}
 use Rattle.printer.specs.Bounds.{accepted}
 use Rattle.printer.specs.Steps.{stepOf, stepRecords, stateAfter, recordsOver}
 use Rattle.printer.specs.Calls.{Run, stopped, afterByte, runOf, callOf, readingOf, outputOf}
-use Rattle.printer.specs.Cutting.{Piece, answerTo, joinedInput, lastState, joinedOutput, bytesRead, ReadToEnd}
+use Rattle.printer.specs.Cutting.{Piece, answerTo, joinedInput, lastState, joinedOutput, bytesRead, ReadToEnd, Resumed}
 use Rattle.printer.specs.declared.answers.Answer.{Answer}
 use Rattle.printer.specs.declared.records.Record.{Record}
 use Rattle.printer.specs.declared.state.Printer.{Printer}
@@ -133,3 +133,12 @@ pub enough-reads : (p : Printer) (input : List ℕ) (allowance : ℕ) (out : Lis
     → readingOf p input allowance (length out) .report .answer ≡ Answer.InputUsed
 unfolding callOf
 enough-reads p input allowance out e h k = rw e (run-reads p input allowance (length out) h k)
+
+-- calls that are each given the unread rest read the whole input
+pub resumed-reads : (input : List ℕ) (p : Printer) (l : List Piece) → Resumed input p l → bytesRead p l ≡ input
+unfolding bytesRead
+resumed-reads input p [] h = sym h
+resumed-reads input p (c ∷ l) h =
+    let n : ℕ = answerTo p c .report .read in
+    let e : take n (c .bytes) ≡ take n input = ap (take n) (h .0) in
+    cc (e, resumed-reads (drop n input) (answerTo p c .printer) l (h .1), take-append-drop n input)

@@ -1,11 +1,11 @@
 -- A place reckoned command by command is what the last setting command set, plus the sum of the moves since.
 use Prim.Native.Nat.{ℕ, _+_}
-use mathlib.Core.Path.{_≡_}
+use mathlib.Core.Path.{_≡_, refl}
 use mathlib.Core.List.{List, [], _∷_, _++_}
 use native.Mathlib.Nat.{add-assoc, zero-add}
 use native.Mathlib.Omega.{arith}
 use Rattle.printer.specs.Tools.{Each}
-use Rattle.printer.specs.Reckoning.{Motion, stays, sets, moves, Axis, moved, movedAll, Moves, forthOf, backOf}
+use Rattle.printer.specs.Reckoning.{Reckoning, Occurrence, start, event, reckonNext, reckonAll, acrossMotion, downMotion, motions, Motion, stays, sets, moves, Axis, moved, movedAll, Moves, forthOf, backOf}
 
 -- moves alone add to the sums
 moves-add : (a : Axis) (l : List Motion) → Each Moves l
@@ -24,3 +24,16 @@ pub last-set : (a : Axis) (before : List Motion) (n : ℕ) (since : List Motion)
 unfolding movedAll
 last-set a [] n since h = rw (moves-add (record { set = n; forth = 0; back = 0 }) since h, zero-add, zero-add)
 last-set a (m ∷ before) n since h = last-set (moved a m) before n since h
+
+-- the reckoned places are the motions of what happened, one after the other
+pub across-moved : (r : Reckoning) (l : List Occurrence) → reckonAll r l .across ≡ movedAll (r .across) (motions acrossMotion (r .force) l)
+unfolding reckonAll movedAll motions
+across-moved r [] = refl
+across-moved r (start resolution ∷ l) = across-moved (reckonNext r (start resolution)) l
+across-moved r (event e ∷ l) = across-moved (reckonNext r (event e)) l
+
+pub down-moved : (r : Reckoning) (l : List Occurrence) → reckonAll r l .down ≡ movedAll (r .down) (motions downMotion (r .force) l)
+unfolding reckonAll movedAll motions
+down-moved r [] = refl
+down-moved r (start resolution ∷ l) = down-moved (reckonNext r (start resolution)) l
+down-moved r (event e ∷ l) = down-moved (reckonNext r (event e)) l

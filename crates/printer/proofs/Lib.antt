@@ -10,6 +10,7 @@ pub mod Bytes
 pub mod Writing
 pub mod Few
 pub mod Cuts
+pub mod Answering
 pub mod Following
 pub mod Claims
 pub mod CallLists

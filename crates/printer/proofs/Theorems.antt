@@ -1,7 +1,7 @@
 -- The theorems about the rules, each stated once.
 use Prim.Native.Nat.{ℕ, _+_, _*_, _≤_, _<_}
 use mathlib.Core.Path.{_≡_, _∙_, ap, sym}
-use mathlib.Core.Bool.{true}
+use mathlib.Core.Bool.{Bool, true, false}
 use mathlib.Core.Logic.{_↔_}
 use mathlib.Core.List.{List, [], _∷_, _++_}
 use native.Mathlib.Omega.{arith}
@@ -13,9 +13,9 @@ use Rattle.printer.specs.Records.{recordSize, roomForByte, encoded, enco
 use Rattle.printer.specs.Bounds.{accepted, Accepted, Typed}
 use Rattle.printer.specs.Steps.{stepRecords, stateAfter, recordsOver, eventsOver}
 use Rattle.printer.specs.Spelling.{pending, speltAll, GenuineEvent}
-use Rattle.printer.specs.Calls.{readingOf}
-use Rattle.printer.specs.Cutting.{Piece, joinedInput, lastState, joinedOutput, bytesRead, ReadToEnd}
-use Rattle.printer.specs.Reckoning.{Motion, sets, Axis, movedAll, Moves, forthOf, backOf}
+use Rattle.printer.specs.Calls.{startOf, callOf, readingOf, outputOf, ExactlyWhen, Refused, StartExactly}
+use Rattle.printer.specs.Cutting.{Piece, joinedInput, lastState, joinedOutput, bytesRead, ReadToEnd, Resumed, Leaves}
+use Rattle.printer.specs.Reckoning.{Motion, sets, Axis, movedAll, Moves, forthOf, backOf, Reckoning, Occurrence, reckonAll, acrossMotion, downMotion, motions}
 use Rattle.printer.specs.Demand3.{StartCall, Call, started, Chain, Demand3}
 use Rattle.printer.specs.Cases.{CheckedByHand}
 use Rattle.printer.specs.declared.answers.Answer.{Answer}
@@ -28,8 +28,9 @@ use Rattle.printer.proofs.Few.{two-records}
 use Rattle.printer.proofs.Spelling.{steps-spell, steps-genuine}
 use Rattle.printer.proofs.Bytes.{decoded-encoded, decodedAll-encoded}
 use Rattle.printer.proofs.Writing.{steps-fit}
-use Rattle.printer.proofs.Cuts.{pieces-state, pieces-output, read-to-end, enough-reads}
-use Rattle.printer.proofs.LastSet.{last-set}
+use Rattle.printer.proofs.Cuts.{pieces-state, pieces-output, read-to-end, resumed-reads, enough-reads}
+use Rattle.printer.proofs.LastSet.{last-set, across-moved, down-moved}
+use Rattle.printer.proofs.Answering.{call-exactly, call-refused, start-exactly}
 use Rattle.printer.proofs.CallLists.{demand-3}
 use Rattle.printer.proofs.ByHand.{checked-by-hand}
 
@@ -87,18 +88,17 @@ genuine p input = steps-genuine p input
 
 -- 4. Demand 2, cutting
 
--- what pieces leave: the last state and the output joined
-pub record Leaves (p : Printer) (l : List Piece) (input : List ℕ) : Type 0 where
-  pub state : lastState p l ≡ stateAfter p input
-  pub output : joinedOutput p l ≡ encodedAll (recordsOver p input)
-
 -- pieces leave what the rules leave over the bytes that their calls read, wherever each call stops
-pub resumed : (p : Printer) (l : List Piece) → Leaves p l (bytesRead p l)
-resumed p l = record { state = pieces-state p l; output = pieces-output p l }
+pub stopped-anywhere : (p : Printer) (l : List Piece) → Leaves p l (bytesRead p l)
+stopped-anywhere p l = record { state = pieces-state p l; output = pieces-output p l }
+
+-- calls resumed after answers 1 and 2, each with the unread rest, leave what the rules leave over the whole input
+pub resumed : (p : Printer) (input : List ℕ) (l : List Piece) → Resumed input p l → Leaves p l input
+resumed p input l h = rw (resumed-reads input p l h) at (stopped-anywhere p l)
 
 -- pieces each read to their end leave what the rules leave over the whole input
 pub pieces : (p : Printer) (l : List Piece) → ReadToEnd p l → Leaves p l (joinedInput l)
-pieces p l h = rw (read-to-end p l h) at (resumed p l)
+pieces p l h = rw (read-to-end p l h) at (stopped-anywhere p l)
 
 -- so two ways to cut an input agree
 pub cutting : (p : Printer) (l m : List Piece) → joinedInput l ≡ joinedInput m → ReadToEnd p l → ReadToEnd p m
@@ -114,9 +114,32 @@ pub reads-to-end : (p : Printer) (input : List ℕ) (allowance : ℕ) (out : Lis
     → readingOf p input allowance (length out) .report .answer ≡ Answer.InputUsed
 reads-to-end p input allowance out e h k = enough-reads p input allowance out e h k
 
--- 5. Demand 3
+-- 5. The answers
 
--- a reckoned place is what the last setting command set, plus the sum of the moves since
+-- 0, 1 and 2 come exactly when the paper says
+pub answers : (p : Printer) (input : List ℕ) (allowance room : ℕ) → accepted p ≡ true
+    → ExactlyWhen (length input) allowance room (callOf p input allowance room)
+answers p input allowance room e = call-exactly p input allowance room e
+
+-- 4 hands the state back and leaves the output
+pub refuses : (p : Printer) (input : List ℕ) (allowance : ℕ) (out : List ℕ) → accepted p ≡ false
+    → Refused p out (outputOf p input allowance out) (readingOf p input allowance (length out))
+refuses p input allowance out e = call-refused p input allowance out e
+
+-- a start answers 0 or 3, with the power-on state that the paper names
+pub starts : (resolution : ℕ) (autofeed : Bool) → StartExactly resolution autofeed (startOf resolution autofeed)
+starts resolution autofeed = start-exactly resolution autofeed
+
+-- 6. Demand 3
+
+-- a reckoned place is the motions of what happened, one after the other ..
+pub place-across : (r : Reckoning) (l : List Occurrence) → reckonAll r l .across ≡ movedAll (r .across) (motions acrossMotion (r .force) l)
+place-across r l = across-moved r l
+
+pub place-down : (r : Reckoning) (l : List Occurrence) → reckonAll r l .down ≡ movedAll (r .down) (motions downMotion (r .force) l)
+place-down r l = down-moved r l
+
+-- .. and that is what the last setting command set, plus the sum of the moves since
 pub exact-place : (a : Axis) (before : List Motion) (n : ℕ) (since : List Motion) → Each Moves since
     → movedAll a (before ++ sets n ∷ since) ≡ record { set = n; forth = forthOf since; back = backOf since }
 exact-place a before n since h = last-set a before n since h
@@ -125,7 +148,7 @@ exact-place a before n since h = last-set a before n since h
 pub demand3 : (before : Printer) (c : StartCall) (l : List Call) → Chain before (started c ∷ l) → Demand3 before (started c ∷ l)
 demand3 before c l h = demand-3 before c l h
 
--- 6. 'Checked by hand'
+-- 7. 'Checked by hand'
 
 pub by-hand : CheckedByHand
 by-hand = checked-by-hand

@@ -1,8 +1,9 @@
 -- Document 01, 'Calls and their numbers': the start, the reading calls, and what each of them promises.
-use Prim.Native.Nat.{ℕ, zero, suc, _*_, _-_}
+use Prim.Native.Nat.{ℕ, zero, suc, _+_, _*_, _-_, _<_}
 use mathlib.Core.Path.{_≡_}
 use mathlib.Core.Bool.{Bool, false}
 use mathlib.Core.List.{List, [], _∷_, _++_}
+use mathlib.Core.Logic.{_⊎_}
 use lib.Dec.{ltb, eqb}
 use lib.ListN.{length, drop}
 use Rattle.printer.specs.Tools.{pick}
@@ -14,6 +15,7 @@ use Rattle.printer.specs.declared.answers.Answer.{Answer}
 use Rattle.printer.specs.declared.answers.Report.{Report}
 use Rattle.printer.specs.declared.answers.Reading.{Reading}
 use Rattle.printer.specs.declared.answers.Started.{Started}
+use Rattle.printer.specs.declared.commands.Waiting.{Waiting}
 use Rattle.printer.specs.declared.records.Record.{Record}
 use Rattle.printer.specs.declared.settings.Setup.{Setup}
 use Rattle.printer.specs.declared.state.Printer.{Printer}
@@ -109,3 +111,29 @@ pub record LentPromise
   pub gives : back ≡ readingOf p input allowance (length out) .report
   pub state : left ≡ readingOf p input allowance (length out) .printer
   pub output : after ≡ outputOf p input allowance out
+
+-- The table of answers, in the paper's numbers
+
+-- 0: input used up. 1: allowance used, input left. 2: under 28 output bytes left, input and allowance left.
+abbrev pub ExactlyWhen : (bytes allowance room : ℕ) → Run → Type 0
+ExactlyWhen bytes allowance room v =
+    ((numberOf (v .answer) ≡ 0) × (v .read ≡ bytes))
+    ⊎ (((numberOf (v .answer) ≡ 1) × (v .read ≡ allowance) × (v .read < bytes))
+    ⊎ ((numberOf (v .answer) ≡ 2) × (v .read < allowance) × (v .read < bytes) × (room < 14 * length (v .records) + 28)))
+
+-- 4: that state, counts 0, output untouched
+pub record Refused (p : Printer) (out after : List ℕ) (back : Reading) : Type 0 where
+  pub number : numberOf (back .report .answer) ≡ 4
+  pub state : back .printer ≡ p
+  pub read : back .report .read ≡ 0
+  pub written : back .report .written ≡ 0
+  pub output : after ≡ out
+
+-- a start: 0 with the power-on state of its settings, waiting for nothing; or 3 with that for 300, automatic line feed off
+pub record StartExactly (resolution : ℕ) (autofeed : Bool) (back : Started) : Type 0 where
+  pub at300 : resolution ≡ 300 → (numberOf (back .answer) ≡ 0) × (back .printer ≡ powerOn (setup Resolution.Dots300 autofeed))
+  pub at203 : resolution ≡ 203 → (numberOf (back .answer) ≡ 0) × (back .printer ≡ powerOn (setup Resolution.Dots203 autofeed))
+  pub else :
+      (resolution ≡ 300 → ⊥) → (resolution ≡ 203 → ⊥)
+      → (numberOf (back .answer) ≡ 3) × (back .printer ≡ powerOn (setup Resolution.Dots300 false))
+  pub waiting : back .printer .waiting ≡ Waiting.Nothing

@@ -1,5 +1,5 @@
 -- Document 01, 'Checked by hand': the table, and what each case comes to from power-on.
-use Prim.Native.Nat.{ℕ, _*_}
+use Prim.Native.Nat.{ℕ, zero, suc, _+_, _*_}
 use mathlib.Core.Path.{_≡_}
 use mathlib.Core.Bool.{false}
 use mathlib.Core.List.{List, [], _∷_, _++_, map}
@@ -28,8 +28,8 @@ pub record Line : Type 0 where
   pub style : ℕ
   pub advance : ℕ
 
-abbrev pub lineOf : Record → Line
-lineOf r =
+abbrev pub shownLine : Record → Line
+shownLine r =
     record {
       mark = r .mark;
       column = r .column .0;
@@ -42,6 +42,11 @@ lineOf r =
 abbrev tx : ℕ → ℕ → ℕ → ℕ → Line
 tx column row byte advance =
     record { mark = Mark.Tx; column = column; row = row; byte = byte; style = 0; advance = advance }
+
+-- so many letters, 30 dots apart, from a column on
+unfoldable pub letters : ℕ → ℕ → List Line
+letters zero column = []
+letters (suc n) column = tx column 0 0x41 360 ∷ letters n (column + 30)
 
 abbrev styled : ℕ → ℕ → ℕ → Line
 styled byte style advance =
@@ -60,18 +65,18 @@ cl = record { mark = Mark.Cl; column = 0; row = 0; byte = 0; style = 0; advance 
 abbrev no : ℕ → ℕ → Line
 no byte reason = record { mark = Mark.No; column = 0; row = 0; byte = byte; style = reason; advance = 0 }
 
--- a case: the resolution, the input, how many records are passed by, and those that come then
+-- a case: the resolution, the input, how many records are skipped, and those that come then
 pub record Case : Type 0 where
   pub resolution : ℕ
   pub input : List ℕ
-  pub passedBy : ℕ
+  pub skipped : ℕ
   pub lines : List Line
 
 abbrev pub linesOfCase : Case → List Line
-linesOfCase c = drop (c .passedBy) (map lineOf (decodedAll (bytesAt (c .resolution) (c .input))))
+linesOfCase c = drop (c .skipped) (map shownLine (decodedAll (bytesAt (c .resolution) (c .input))))
 
 abbrev at300 : List ℕ → List Line → Case
-at300 input lines = record { resolution = 300; input = input; passedBy = 0; lines = lines }
+at300 input lines = record { resolution = 300; input = input; skipped = 0; lines = lines }
 
 unfoldable pub table : List Case
 table =
@@ -84,26 +89,21 @@ table =
     record {
       resolution = 203;
       input = 0x41 ∷ 0x41 ∷ 0x41 ∷ [];
-      passedBy = 0;
+      skipped = 0;
       lines = tx 0 0 0x41 360 ∷ tx 20 0 0x41 360 ∷ tx 41 0 0x41 360 ∷ [];
     } ∷
     -- 4: ESC L, 2 bytes
     at300 (0x1B ∷ 0x4C ∷ 2 ∷ 0 ∷ 7 ∷ 8 ∷ []) (im 0 7 30 ∷ im 3 8 30 ∷ []) ∷
     -- 5: 80 letters fit; the 81st gives LN row 50, column 0
-    record {
-      resolution = 300;
-      input = replicate 81 0x41;
-      passedBy = 79;
-      lines = tx 2370 0 0x41 360 ∷ ln 50 0 ∷ tx 0 50 0x41 360 ∷ [];
-    } ∷
+    at300 (replicate 81 0x41) (letters 80 0 ++ (ln 50 0 ∷ tx 0 50 0x41 360 ∷ [])) ∷
     -- 6: ESC A 85 taken; 86 NO 2
     at300 (0x1B ∷ 0x41 ∷ 85 ∷ 0x0A ∷ 0x1B ∷ 0x41 ∷ 86 ∷ []) (ln 425 0 ∷ no 0x41 2 ∷ []) ∷
     -- 7: 65 LF; one more; ESC J 60 instead
-    record { resolution = 300; input = replicate 66 0x0A; passedBy = 64; lines = ln 3250 0 ∷ ln 0 1 ∷ [] } ∷
+    record { resolution = 300; input = replicate 66 0x0A; skipped = 64; lines = ln 3250 0 ∷ ln 0 1 ∷ [] } ∷
     record {
       resolution = 300;
       input = replicate 65 0x0A ++ (0x1B ∷ 0x4A ∷ 60 ∷ []);
-      passedBy = 64;
+      skipped = 64;
       lines = ln 3250 0 ∷ ln 50 1 ∷ [];
     } ∷
     -- 8: ESC l 79 taken; 80 NO 3
@@ -115,7 +115,7 @@ table =
     at300 (0x1B ∷ 0x21 ∷ 0x25 ∷ 0x41 ∷ []) (styled 0x41 0x840 360 ∷ []) ∷
     at300 (0x1B ∷ 0x70 ∷ 1 ∷ 0x0F ∷ 0x41 ∷ []) (styled 0x41 0xC00 180 ∷ []) ∷
     -- 'Errors that read well': at 203 the 80th 10 cpi letter is at 1,604
-    record { resolution = 203; input = replicate 80 0x41; passedBy = 79; lines = tx 1604 0 0x41 360 ∷ [] } ∷
+    record { resolution = 203; input = replicate 80 0x41; skipped = 79; lines = tx 1604 0 0x41 360 ∷ [] } ∷
     []
 
 pub record CheckedByHand : Type 0 where

@@ -2,7 +2,9 @@
 use Prim.Native.Nat.{ℕ}
 use mathlib.Core.Path.{_≡_}
 use mathlib.Core.List.{List, [], _∷_, _++_}
-use lib.ListN.{length, take}
+use lib.ListN.{length, take, drop}
+use Rattle.printer.specs.Records.{encodedAll}
+use Rattle.printer.specs.Steps.{stateAfter, recordsOver}
 use Rattle.printer.specs.Calls.{readingOf, outputOf}
 use Rattle.printer.specs.declared.answers.Answer.{Answer}
 use Rattle.printer.specs.declared.answers.Reading.{Reading}
@@ -41,3 +43,14 @@ bytesRead p (c ∷ l) = take (answerTo p c .report .read) (c .bytes) ++ bytesRea
 abbrev pub ReadToEnd : Printer → List Piece → Type 0
 ReadToEnd p [] = Unit
 ReadToEnd p (c ∷ l) = (answerTo p c .report .answer ≡ Answer.InputUsed) × ReadToEnd (answerTo p c .printer) l
+
+-- each call is given what the ones before left unread, until nothing is left
+abbrev pub Resumed : List ℕ → Printer → List Piece → Type 0
+Resumed input p [] = input ≡ []
+Resumed input p (c ∷ l) =
+    (c .bytes ≡ input) × Resumed (drop (answerTo p c .report .read) input) (answerTo p c .printer) l
+
+-- what pieces leave: the last state, and the output joined
+pub record Leaves (p : Printer) (l : List Piece) (input : List ℕ) : Type 0 where
+  pub state : lastState p l ≡ stateAfter p input
+  pub output : joinedOutput p l ≡ encodedAll (recordsOver p input)

@@ -6,6 +6,7 @@ use lib.Dec.{leb, ltb, eqb}
 use Rattle.printer.specs.Tools.{pick, either, within, Order, _upTo_, holds}
 use Rattle.printer.specs.Widths.{advance, columnWidth, imageStep}
 use Rattle.printer.specs.Settings.{leftOf, rightOf, pageOf, lineOf, edgeOf, relativeStep, acrossOf, downOf, columnsOf, linesOf}
+use Rattle.printer.specs.Records.{unlisted, notAllowed, pastLimits, doesNotFit, noStop}
 use Rattle.printer.specs.Performing.{Event, done, passed, inside, automatic, stopAt, perform}
 use Rattle.printer.specs.declared.commands.Command.{Command}
 use Rattle.printer.specs.declared.commands.Control.{Control}
@@ -49,7 +50,8 @@ inRange Parameter.Outline n = leb n 3
 inRange Parameter.Font n = true
 inRange Parameter.Master n = true
 
--- Geometry: what a command needs of the settings and the place at which it is done
+-- Geometry: what a command needs of the settings and the place at which it is done. Those of LF, HT, VT and ESC J, which always find something
+-- to do, say what holds of the pages or the stop that is told.
 
 -- 1 at 15 cpi, where SI is not allowed
 abbrev pub fifteens : Pitch → ℕ
@@ -65,14 +67,14 @@ abbrev pub lineNeeds : Settings → Place → ℕ → List Order
 lineNeeds s x zero = _upTo_ (suc (downOf x + lineOf s)) (edgeOf s) ∷ []
 lineNeeds s x (suc pages) = _upTo_ (edgeOf s) (downOf x + lineOf s) ∷ _upTo_ pages 0 ∷ []
 
--- HT: the stop is above the place and within the right margin
+-- HT: the stop is to the right of the place and within the right margin
 abbrev pub tabNeeds : Settings → Place → ℕ → List Order
 tabNeeds s x n =
     _upTo_ (suc (acrossOf x)) (leftOf s + n * columnWidth (s .width)) ∷
     _upTo_ (leftOf s + n * columnWidth (s .width)) (rightOf s) ∷
     []
 
--- VT: the stop is above the edge
+-- VT: the stop is before the edge
 abbrev pub verticalNeeds : Settings → List ℕ → ℕ → List Order
 verticalNeeds s l zero = []
 verticalNeeds s l (suc n) = _upTo_ (suc (stopAt l (suc n))) (edgeOf s) ∷ []
@@ -102,7 +104,7 @@ modeNeeds s (Mode.Italic x) = []
 modeNeeds s Mode.NoScript = []
 modeNeeds s (Mode.UpperPrints x) = []
 
--- ESC N: 3,600 remain, and the place is above the new edge
+-- ESC N: 3,600 remain, and the place is before the new edge
 abbrev pub skipNeeds : Settings → Place → ℕ → List Order
 skipNeeds s x n =
     _upTo_ (3600 + n * lineOf s) (pageOf s) ∷ _upTo_ (suc (downOf x + n * lineOf s)) (pageOf s) ∷ []
@@ -175,7 +177,7 @@ attempt p c reason = pick (holds (needsAt p c 0)) (done c 0) (passed c reason)
 
 -- range comes before geometry
 unfoldable pub ranged : Bool → Command → Event → Event
-ranged fits c e = pick fits e (passed c 2)
+ranged fits c e = pick fits e (passed c notAllowed)
 
 -- the pages that an LF turns
 abbrev pub pagesOfLine : Printer → ℕ
@@ -187,8 +189,8 @@ letterEvents p b =
     pick (holds (needsAt p (Command.Letter b) 0))
     (done (Command.Letter b) 0 ∷ [])
     (pick (eqb (acrossOf (p .place)) (leftOf (p .settings)))
-    (passed (Command.Letter b) 4 ∷ [])
-    (automatic (pagesOfLine p) ∷ attempt (perform p (automatic (pagesOfLine p))) (Command.Letter b) 4 ∷ []))
+    (passed (Command.Letter b) doesNotFit ∷ [])
+    (automatic (pagesOfLine p) ∷ attempt (perform p (automatic (pagesOfLine p))) (Command.Letter b) doesNotFit ∷ []))
 
 -- after a CR: LF if automatic line feed is set
 unfoldable pub feedAfterReturn : Printer → List Event
@@ -201,7 +203,7 @@ columnFrom s x k (n ∷ l) = pick (holds (tabNeeds s x n)) (Stop.Found k n) (col
 
 abbrev pub tabEvent : Command → Stop → Event
 tabEvent c (Stop.Found k n) = done c k
-tabEvent c Stop.Missing = passed c 5
+tabEvent c Stop.Missing = passed c noStop
 
 -- VT: the first stop greater than down
 unfoldable pub lineFrom : ℕ → ℕ → List ℕ → Stop
@@ -237,9 +239,9 @@ controlEvents p Control.HorizontalTab b =
     (columnFrom (p .settings) (p .place) 1 (columnsOf (p .stops .columns)))
     ∷ []
 controlEvents p Control.VerticalTab b = vertical p (Command.Control Control.VerticalTab b)
-controlEvents p Control.Backspace b = attempt p (Command.Control Control.Backspace b) 3 ∷ []
+controlEvents p Control.Backspace b = attempt p (Command.Control Control.Backspace b) pastLimits ∷ []
 controlEvents p Control.ShiftOut b = done (Command.Control Control.ShiftOut b) 0 ∷ []
-controlEvents p Control.ShiftIn b = attempt p (Command.Control Control.ShiftIn b) 2 ∷ []
+controlEvents p Control.ShiftIn b = attempt p (Command.Control Control.ShiftIn b) notAllowed ∷ []
 controlEvents p Control.Dc2 b = done (Command.Control Control.Dc2 b) 0 ∷ []
 controlEvents p Control.Dc4 b = done (Command.Control Control.Dc4 b) 0 ∷ []
 
@@ -248,24 +250,24 @@ abbrev pub decide : Printer → Command → List Event
 decide p (Command.Letter b) = letterEvents p b
 decide p (Command.Control c b) = controlEvents p c b
 decide p (Command.Escape b) = done (Command.Escape b) 0 ∷ []
-decide p (Command.Unlisted b) = passed (Command.Unlisted b) 1 ∷ []
-decide p (Command.UnlistedEscape b) = passed (Command.UnlistedEscape b) 1 ∷ []
+decide p (Command.Unlisted b) = passed (Command.Unlisted b) unlisted ∷ []
+decide p (Command.UnlistedEscape b) = passed (Command.UnlistedEscape b) unlisted ∷ []
 decide p Command.Reset = done Command.Reset 0 ∷ []
-decide p (Command.Mode c) = attempt p (Command.Mode c) 2 ∷ []
+decide p (Command.Mode c) = attempt p (Command.Mode c) notAllowed ∷ []
 decide p (Command.Parameter c n) =
-    ranged (inRange c n) (Command.Parameter c n) (attempt p (Command.Parameter c n) 3) ∷ []
+    ranged (inRange c n) (Command.Parameter c n) (attempt p (Command.Parameter c n) pastLimits) ∷ []
 decide p (Command.Feed n) =
     done (Command.Feed n) ((downOf (p .place) + 20 * n) / edgeOf (p .settings)) ∷ []
-decide p (Command.LeftMargin n) = attempt p (Command.LeftMargin n) 3 ∷ []
-decide p (Command.RightMargin n) = attempt p (Command.RightMargin n) 3 ∷ []
+decide p (Command.LeftMargin n) = attempt p (Command.LeftMargin n) pastLimits ∷ []
+decide p (Command.RightMargin n) = attempt p (Command.RightMargin n) pastLimits ∷ []
 decide p (Command.PageLines n) =
-    ranged (within 1 127 n) (Command.PageLines n) (attempt p (Command.PageLines n) 3) ∷ []
+    ranged (within 1 127 n) (Command.PageLines n) (attempt p (Command.PageLines n) pastLimits) ∷ []
 decide p (Command.PageInches n) =
-    ranged (within 1 22 n) (Command.PageInches n) (attempt p (Command.PageInches n) 3) ∷ []
-decide p (Command.Absolute a b) = attempt p (Command.Absolute a b) 3 ∷ []
-decide p (Command.Relative a b) = attempt p (Command.Relative a b) 3 ∷ []
+    ranged (within 1 22 n) (Command.PageInches n) (attempt p (Command.PageInches n) pastLimits) ∷ []
+decide p (Command.Absolute a b) = attempt p (Command.Absolute a b) pastLimits ∷ []
+decide p (Command.Relative a b) = attempt p (Command.Relative a b) pastLimits ∷ []
 decide p (Command.OpenImage d a b) = done (Command.OpenImage d a b) 0 ∷ []
-decide p (Command.ImageByte d b) = attempt p (Command.ImageByte d b) 4 ∷ []
+decide p (Command.ImageByte d b) = attempt p (Command.ImageByte d b) doesNotFit ∷ []
 decide p (Command.OpenList k) = done (Command.OpenList k) 0 ∷ []
-decide p (Command.ListByte k b) = attempt p (Command.ListByte k b) 3 ∷ []
+decide p (Command.ListByte k b) = attempt p (Command.ListByte k b) pastLimits ∷ []
 decide p (Command.EndList k b) = done (Command.EndList k b) 0 ∷ []

@@ -37,7 +37,7 @@ pub record InForce : Type 0 where
   pub measures : Measures
   pub lists : Lists
 
--- at a start, and after ESC @
+-- at a start, and after ESC @: the paper's numbers again, not the rules' power-on
 abbrev pub atStart : InForce
 atStart =
     record {
@@ -215,7 +215,7 @@ abbrev pub endList : InForce → Tabs → InForce
 endList f Tabs.Horizontal = listsInForce f (f .lists .newcolumns) (f .lists .lines) [] (f .lists .newlines)
 endList f Tabs.Vertical = listsInForce f (f .lists .columns) (f .lists .newlines) (f .lists .newcolumns) []
 
--- the units of an image column: ESC K, L, Y, Z
+-- the units of an image column, by the paper's numbers and not by the rules' table: ESC K, L, Y, Z
 abbrev pub stepOfImage : Density → ℕ
 stepOfImage Density.Single = 60
 stepOfImage Density.Double = 30

@@ -168,28 +168,35 @@ begun resolution =
       down = origin;
     }
 
-abbrev pub reckonControl : Reckoning → Control → ℕ → Reckoning
-reckonControl r c told =
-    record {
-      dAcross = r .dAcross;
-      dDown = r .dDown;
-      force = enforceControl (r .force) c;
-      across = moved (r .across) (acrossByControl (r .force) c told);
-      down = moved (r .down) (downByControl (r .force) c told);
-    }
+-- what is in force after an event
+abbrev pub forceAfter : InForce → Event → InForce
+forceAfter f (done c told) = enforce f c
+forceAfter f (passed c reason) = f
+forceAfter f (inside c told) = enforceControl f c
+forceAfter f (automatic told) = enforceControl f Control.LineFeed
+
+-- an event's motion across and down
+abbrev pub acrossMotion : InForce → Event → Motion
+acrossMotion f (done c told) = acrossBy f c told
+acrossMotion f (passed c reason) = stays
+acrossMotion f (inside c told) = acrossByControl f c told
+acrossMotion f (automatic told) = acrossByControl f Control.LineFeed told
+
+abbrev pub downMotion : InForce → Event → Motion
+downMotion f (done c told) = downBy f c told
+downMotion f (passed c reason) = stays
+downMotion f (inside c told) = downByControl f c told
+downMotion f (automatic told) = downByControl f Control.LineFeed told
 
 abbrev pub reckon : Reckoning → Event → Reckoning
-reckon r (done c told) =
+reckon r e =
     record {
       dAcross = r .dAcross;
       dDown = r .dDown;
-      force = enforce (r .force) c;
-      across = moved (r .across) (acrossBy (r .force) c told);
-      down = moved (r .down) (downBy (r .force) c told);
+      force = forceAfter (r .force) e;
+      across = moved (r .across) (acrossMotion (r .force) e);
+      down = moved (r .down) (downMotion (r .force) e);
     }
-reckon r (passed c reason) = r
-reckon r (inside c told) = reckonControl r c told
-reckon r (automatic told) = reckonControl r Control.LineFeed told
 
 -- What is printed
 
@@ -246,3 +253,22 @@ printedNext r (event e) = printedAt r e
 unfoldable pub printed : Reckoning → List Occurrence → List Printed
 printed r [] = []
 printed r (o ∷ l) = printedNext r o ++ printed (reckonNext r o) l
+
+-- the reckoning after all of them
+unfoldable pub reckonAll : Reckoning → List Occurrence → Reckoning
+reckonAll r [] = r
+reckonAll r (o ∷ l) = reckonAll (reckonNext r o) l
+
+-- The motions of occurrences along an axis, each by what is in force then; a start sets both places to 0
+
+abbrev pub motionOf : (InForce → Event → Motion) → InForce → Occurrence → Motion
+motionOf m f (start resolution) = sets 0
+motionOf m f (event e) = m f e
+
+abbrev pub forceNext : InForce → Occurrence → InForce
+forceNext f (start resolution) = atStart
+forceNext f (event e) = forceAfter f e
+
+unfoldable pub motions : (InForce → Event → Motion) → InForce → List Occurrence → List Motion
+motions m f [] = []
+motions m f (o ∷ l) = motionOf m f o ∷ motions m (forceNext f o) l

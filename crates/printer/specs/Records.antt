@@ -19,7 +19,7 @@ abbrev pub recordSize : ℕ
 recordSize = 14
 
 abbrev pub roomForByte : ℕ
-roomForByte = 28
+roomForByte = 2 * recordSize
 
 -- Style
 
@@ -84,7 +84,7 @@ feedRecord r down pages =
 abbrev pub newTop : ℕ
 newTop = 255
 
--- CL
+-- CL: TX and IM since the last LN, CL or start are void
 abbrev pub clearRecord : Record
 clearRecord =
     record {
@@ -111,6 +111,28 @@ passedRecord b reason =
       country = 0;
       advance = units 0;
     }
+
+-- Reasons
+
+-- 1: unlisted
+abbrev pub unlisted : ℕ
+unlisted = 1
+
+-- 2: argument or setting not allowed
+abbrev pub notAllowed : ℕ
+notAllowed = 2
+
+-- 3: past margin, page or stop limits
+abbrev pub pastLimits : ℕ
+pastLimits = 3
+
+-- 4: letter or image column does not fit
+abbrev pub doesNotFit : ℕ
+doesNotFit = 4
+
+-- 5: no stop to the right
+abbrev pub noStop : ℕ
+noStop = 5
 
 -- The bytes
 

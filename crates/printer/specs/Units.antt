@@ -4,6 +4,7 @@ use Rattle.printer.specs.declared.units.Units.{Units}
 use Rattle.printer.specs.declared.units.Dots.{Dots}
 use Rattle.printer.specs.declared.units.Resolution.{Resolution}
 
+-- one unit is 1/3600 inch
 abbrev pub units : ℕ → Units
 units n = record { 0 = n }
 
