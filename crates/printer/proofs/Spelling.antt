@@ -7,7 +7,7 @@ use mathlib.Core.Logic.{_⊎_, inl, inr}
 use native.Mathlib.Omega.{arith}
 use lib.Dec.{leb, eqb, ltb}
 use borrow.Author.Tests.{eqb-true, leb-false, leb-true}
-use Rattle.printer.specs.Tools.{pick, both, within, lookup, holds, Each}
+use Rattle.printer.specs.Tools.{among, either, pick, both, within, lookup, holds, Each}
 use Rattle.printer.specs.Codes.{controlCode, oneCode, twoCode}
 use Rattle.printer.specs.Framing.{isLetter, readAs, firsts, seconds, firstOf, secondOf, oneCommand, twoCommand, afterTwo, imageWait, firstFrame, secondFrame, frame}
 use Rattle.printer.specs.Performing.{Event, done, passed, inside, automatic}
@@ -15,7 +15,7 @@ use Rattle.printer.specs.Deciding.{attempt, ranged, letterEvents, feedAf
 use Rattle.printer.specs.declared.stops.Stop.{Stop}
 use Rattle.printer.specs.Settings.{acrossOf, leftOf, edgeOf, downOf, columnsOf, linesOf}
 use Rattle.printer.specs.Steps.{frameAt, eventsIn, nextIn, stepEvents, stepOf, stateAfter, eventsOver}
-use Rattle.printer.specs.Spelling.{spelt, pending, StandsFor, Genuine, speltBy, speltAll, GenuineEvent}
+use Rattle.printer.specs.Spelling.{listedControls, listedEscapes, spelt, pending, StandsFor, Genuine, speltBy, speltAll, GenuineEvent}
 use Rattle.printer.specs.declared.commands.Command.{Command}
 use Rattle.printer.specs.declared.commands.Control.{Control}
 use Rattle.printer.specs.declared.commands.Density.{Density}
@@ -28,6 +28,12 @@ use Rattle.printer.specs.declared.commands.Waiting.{Waiting}
 use Rattle.printer.specs.declared.state.Printer.{Printer}
 use Rattle.printer.proofs.Choices.{pick-elim, both-right, either-elim, either-left, either-right, within-fact, each-append, each-map}
 
+heads : {B : Type 0} {x y : B} {xs ys : List B} → x ∷ xs ≡ y ∷ ys → x ≡ y
+heads h = cc
+
+tails : {B : Type 0} {x y : B} {xs ys : List B} → x ∷ xs ≡ y ∷ ys → xs ≡ ys
+tails h = cc
+
 -- a table's rule: two functions that agree on every entry, by a computed test, agree on what stands beside b
 pub lookup-agrees : {A : Type 0} (f g : ℕ → A → List ℕ) (l : List (ℕ × A)) (d : A) (b : ℕ)
     → map (λ (e : ℕ × A). f (e .0) (e .1)) l ≡ map (λ (e : ℕ × A). g (e .0) (e .1)) l → f b d ≡ g b d
@@ -38,12 +44,19 @@ lookup-agrees {A} f g (e ∷ l) d b h k =
     pick-elim (λ (x : A). f b x ≡ g b x) (eqb b (e .0))
     (λ t. rw (eqb-true b (e .0) t) (heads h))
     (λ _. lookup-agrees f g l d b (tails h) k)
-  where
-    heads : {B : Type 0} {x y : B} {xs ys : List B} → x ∷ xs ≡ y ∷ ys → x ≡ y
-    heads h = cc
 
-    tails : {B : Type 0} {x y : B} {xs ys : List B} → x ∷ xs ≡ y ∷ ys → xs ≡ ys
-    tails h = cc
+-- a table that has no entry d finds d only where no key is met
+missed : {A : Type 0} (is : A → Bool) (l : List (ℕ × A)) (d : A) (b : ℕ) → is d ≡ true
+    → map (λ (e : ℕ × A). is (e .1)) l ≡ map (λ (e : ℕ × A). false) l
+    → is (lookup l d b) ≡ pick (among (map (λ (e : ℕ × A). e .0) l) b) false true
+unfolding lookup among
+missed is [] d b h k = h
+missed {A} is (e ∷ l) d b h k = go (eqb b (e .0)) (missed is l d b h (tails k))
+  where
+    go : (t : Bool) → is (lookup l d b) ≡ pick (among (map (λ (x : ℕ × A). x .0) l) b) false true
+        → is (pick t (e .1) (lookup l d b)) ≡ pick (either t (among (map (λ (x : ℕ × A). x .0) l) b)) false true
+    go true r = heads k
+    go false r = r
 
 -- One byte
 
@@ -139,20 +152,46 @@ read-as upper b =
     (λ e. let k = within-fact 0x80 0x9F b (both-right (pick upper false true) _ e) in inr (omega arith))
     (λ _. inl refl)
 
-first-genuine : (f : First) (n b : ℕ) → firstCode f n ∷ [] ≡ n ∷ [] → StandsFor b n
-    → (b ≤ 0x1F) ⊎ ((0x7F ≤ b) × (b ≤ 0x9F)) → GenuineIn (firstFrame f b)
-first-genuine (First.Control c) n b e s h = let k : controlCode c ≡ n = cc in rw k s
-first-genuine First.Escape n b e s h = let k : n ≡ 0x1B = cc in rw k at s
-first-genuine First.Unlisted n b e s h = h
+abbrev noControl : First → Bool
+noControl (First.Control c) = false
+noControl First.Escape = false
+noControl First.Unlisted = true
 
-second-genuine : (s : Second) (b : ℕ) → GenuineIn (secondFrame s b)
-second-genuine Second.Reset b = tt
-second-genuine (Second.Mode c) b = tt
-second-genuine (Second.One c) b = tt
-second-genuine Second.Page b = tt
-second-genuine (Second.Two c) b = tt
-second-genuine (Second.List t) b = tt
-second-genuine Second.Unlisted b = tt
+abbrev noEscape : Second → Bool
+noEscape Second.Reset = false
+noEscape (Second.Mode c) = false
+noEscape (Second.One c) = false
+noEscape Second.Page = false
+noEscape (Second.Two c) = false
+noEscape (Second.List t) = false
+noEscape Second.Unlisted = true
+
+first-listed : (n : ℕ) → noControl (firstOf n) ≡ pick (among listedControls n) false true
+unfolding firsts listedControls
+first-listed n = missed noControl firsts First.Unlisted n refl refl
+
+second-listed : (b : ℕ) → noEscape (secondOf b) ≡ pick (among listedEscapes b) false true
+unfolding seconds listedEscapes
+second-listed b = missed noEscape seconds Second.Unlisted b refl refl
+
+not-among : (t : Bool) → true ≡ pick t false true → t ≡ false
+not-among true e = e
+not-among false e = refl
+
+first-genuine : (f : First) (n b : ℕ) → firstCode f n ∷ [] ≡ n ∷ [] → noControl f ≡ pick (among listedControls n) false true
+    → StandsFor b n → (b ≤ 0x1F) ⊎ ((0x7F ≤ b) × (b ≤ 0x9F)) → GenuineIn (firstFrame f b)
+first-genuine (First.Control c) n b e q s h = let k : controlCode c ≡ n = cc in rw k s
+first-genuine First.Escape n b e q s h = let k : n ≡ 0x1B = cc in rw k at s
+first-genuine First.Unlisted n b e q s h = (h, (n, s, not-among (among listedControls n) q))
+
+second-genuine : (s : Second) (b : ℕ) → noEscape s ≡ pick (among listedEscapes b) false true → GenuineIn (secondFrame s b)
+second-genuine Second.Reset b q = tt
+second-genuine (Second.Mode c) b q = tt
+second-genuine (Second.One c) b q = tt
+second-genuine Second.Page b q = tt
+second-genuine (Second.Two c) b q = tt
+second-genuine (Second.List t) b q = tt
+second-genuine Second.Unlisted b q = not-among (among listedEscapes b) q
 
 one-genuine : (c : One) (n : ℕ) → Genuine (oneCommand c n)
 one-genuine (One.Parameter c) n = tt
@@ -169,8 +208,8 @@ pub frame-genuine : (upper : Bool) (w : Waiting) (b : ℕ) → GenuineIn (frame 
 unfolding frame
 frame-genuine upper Waiting.Nothing b =
     pick-elim GenuineIn (isLetter upper b) (λ e. a-letter upper b e)
-    (λ e. first-genuine (firstOf (readAs upper b)) (readAs upper b) b (first-code (readAs upper b)) (read-as upper b) (no-letter upper b e))
-frame-genuine upper Waiting.SecondByte b = second-genuine (secondOf b) b
+    (λ e. first-genuine (firstOf (readAs upper b)) (readAs upper b) b (first-code (readAs upper b)) (first-listed (readAs upper b)) (read-as upper b) (no-letter upper b e))
+frame-genuine upper Waiting.SecondByte b = second-genuine (secondOf b) b (second-listed b)
 frame-genuine upper (Waiting.Argument c) b = one-genuine c b
 frame-genuine upper Waiting.PageLength b = pick-elim GenuineIn (eqb b 0) (λ _. tt) (λ _. tt)
 frame-genuine upper Waiting.PageInches b = tt

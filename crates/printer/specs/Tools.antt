@@ -46,6 +46,11 @@ unfoldable pub lookup : {A : Type 0} → List (ℕ × A) → A → ℕ → A
 lookup [] d b = d
 lookup (e ∷ l) d b = pick (eqb b (e .0)) (e .1) (lookup l d b)
 
+-- n is among the numbers of a list
+unfoldable pub among : List ℕ → ℕ → Bool
+among [] n = false
+among (m ∷ l) n = either (eqb n m) (among l n)
+
 -- P holds of each element
 abbrev pub Each : {A : Type 0} → (A → Type 0) → List A → Type 0
 Each P [] = Unit
