@@ -14,7 +14,7 @@ use Rattle.printer.specs.PowerOn.{powerOn}
 use Rattle.printer.specs.Calls
 use Rattle.printer.specs.Calls.{numberOf, setup, startOf, Run, runOf, callOf, readingOf, outputOf}
 use Rattle.printer.specs.Reckoning.{origin, begun, Axis, printed}
-use Rattle.printer.specs.Demand3.{StartCall, ReadCall, Manner, byValue, lent, Call, started, read, ReadingPromise, Chain, bytesOf, rulesAfter, occurrences, OwnCall, Own, NotFour, writtenBy, joined, Demand3}
+use Rattle.printer.specs.Demand3.{Rooms, StartCall, ReadCall, Manner, byValue, lent, Call, started, read, ReadingPromise, Chain, bytesOf, rulesAfter, occurrences, OwnCall, Own, NotFour, writtenBy, joined, Demand3}
 use Rattle.printer.specs.declared.answers.Answer.{Answer}
 use Rattle.printer.specs.declared.answers.Report.{Report}
 use Rattle.printer.specs.declared.answers.Reading.{Reading}
@@ -156,12 +156,13 @@ records-fit p (read n c ∷ l) m o =
     (records-fit (rulesAfter p (read n c)) l (m .1) (steps-ours p (bytesOf c) b o))
 
 calls-claim : (p : Printer) (n : ℕ) (k j : Axis) (l : List Call) → BytesIn l → Keeps p n k j
-    → Claim (recordsIn p l) (printed (from p n k j) (occurrences p l))
+    → Claim (recordsIn p l) (printed (from p n k j) (occurrences p l)) (Rooms (from p n k j) (occurrences p l))
 unfolding recordsIn BytesIn occurrences printed
 calls-claim p n k j [] m h = nothing
 calls-claim p n k j (started c ∷ l) m h =
     let b = start-begins (c .resolution) (c .autofeed) in
-    rw (b .begins) (calls-claim (rulesAfter p (started c)) 0 origin origin l m (b .keeps))
+    let w = calls-claim (rulesAfter p (started c)) 0 origin origin l m (b .keeps) in
+    rw (b .begins) (record { same = w .same; between = w .between; passedOver = (tt, w .passedOver) })
 calls-claim p n k j (read i c ∷ l) m h =
     bytes-then p n k j (bytesOf c) (recordsIn (rulesAfter p (read i c)) l) (occurrences (rulesAfter p (read i c)) l)
     (bytes-take (c .back .read) (c .input) (m .0)) h
@@ -180,4 +181,5 @@ demand-3 p c l h =
       noFour = (rw (o .0) (b .number), not-four q l m (o .1) (b .keeps .ours));
       same = rw (joined-records p (started c ∷ l) o, decodedAll-encoded (recordsIn q l) (records-fit q l m (b .keeps .ours)), b .begins) (w .same);
       between = rw (b .begins) (w .between);
+      passedOver = (tt, rw (b .begins) (w .passedOver));
     }

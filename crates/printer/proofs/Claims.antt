@@ -15,7 +15,7 @@ use Rattle.printer.specs.Steps.{frameAt, eventsIn, nextIn, stepEvents, s
 use Rattle.printer.specs.InForce
 use Rattle.printer.specs.InForce.{stepOfImage, enforce}
 use Rattle.printer.specs.Reckoning.{Axis, moved, exact, reckon, Printed, printedBy, printedAt, Occurrence, event, printed, acrossBy, downBy, acrossByControl, downByControl}
-use Rattle.printer.specs.Demand3.{shown, dotted, Between}
+use Rattle.printer.specs.Demand3.{NoRoom, RoomAt, Rooms, shown, dotted, Between}
 use Rattle.printer.specs.declared.commands.Command.{Command}
 use Rattle.printer.specs.declared.commands.Control.{Control}
 use Rattle.printer.specs.declared.commands.Density.{Density}
@@ -31,32 +31,35 @@ use Rattle.printer.specs.declared.state.Place.{Place}
 use Rattle.printer.specs.declared.state.Printer.{Printer}
 use Rattle.printer.proofs.Choices.{pick-elim, each-append, each-map}
 use Rattle.printer.proofs.Spelling.{EventOf, of-decide}
-use Rattle.printer.proofs.Legal.{Done, Legal, LegalAll}
+use Rattle.printer.proofs.Legal.{Unfit, Done, Legal, LegalAll}
 use Rattle.printer.proofs.Keeping.{Kept, keep}
 use Rattle.printer.proofs.KeepingSteps.{Ours, kept, sound, step-ours}
 use Rattle.printer.proofs.Following.{forceOf, from, At, InStep, agree-control, agree, follow-control, follow}
 
 -- Claims, and two of them joined
 
-pub record Claim (records : List Record) (events : List Printed) : Type 0 where
+-- of records, what is printed, and what is passed over for want of room
+pub record Claim (records : List Record) (events : List Printed) (rooms : Type 0) : Type 0 where
   pub same : shown records ≡ map dotted events
   pub between : Each Between events
+  pub passedOver : rooms
 
 shown-append : (a b : List Record) → shown (a ++ b) ≡ shown a ++ shown b
 unfolding shown
 shown-append [] b = refl
 shown-append (r ∷ a) b = rw (shown-append a b, append-assoc)
 
-join : (a b : List Record) (x y : List Printed) → Claim a x → Claim b y → Claim (a ++ b) (x ++ y)
-join a b x y h k =
+join : (a b : List Record) (x y : List Printed) (R S : Type 0) → Claim a x R → Claim b y S → Claim (a ++ b) (x ++ y) (R × S)
+join a b x y R S h k =
     record {
       same = rw (shown-append a b, map-append, h .same, k .same);
       between = each-append Between x y (h .between) (k .between);
+      passedOver = (h .passedOver, k .passedOver);
     }
 
-pub nothing : Claim [] []
+pub nothing : Claim [] [] Unit
 unfolding shown
-nothing = record { same = refl; between = tt }
+nothing = record { same = refl; between = tt; passedOver = tt }
 
 -- One event
 
@@ -66,14 +69,14 @@ pub record Follows (p : Printer) (k j : Axis) : Type 0 where
   pub across : At k (acrossOf (p .place))
   pub down : At j (downOf (p .place))
 
-silent-control : (s : Settings) (y : Place) (c : Control) (told : ℕ) → Claim (controlRecords s y c told) []
+silent-control : (s : Settings) (y : Place) (c : Control) (told : ℕ) → Claim (controlRecords s y c told) [] Unit
 unfolding shown
 silent-control s y Control.CarriageReturn told = nothing
-silent-control s y Control.LineFeed told = record { same = refl; between = tt }
-silent-control s y Control.FormFeed told = record { same = refl; between = tt }
+silent-control s y Control.LineFeed told = record { same = refl; between = tt; passedOver = tt }
+silent-control s y Control.FormFeed told = record { same = refl; between = tt; passedOver = tt }
 silent-control s y Control.HorizontalTab told = nothing
 silent-control s y Control.VerticalTab zero = nothing
-silent-control s y Control.VerticalTab (suc n) = record { same = refl; between = tt }
+silent-control s y Control.VerticalTab (suc n) = record { same = refl; between = tt; passedOver = tt }
 silent-control s y Control.Backspace told = nothing
 silent-control s y Control.ShiftOut told = nothing
 silent-control s y Control.ShiftIn told = nothing
@@ -87,29 +90,29 @@ module _ (p : Printer) (n : ℕ) (k j : Axis) (f : Follows p k j) where
   exact-down : exact j ≡ downOf (p .place)
   exact-down = let d = f .down in omega arith
 
-  command-claim : (c : Command) (told : ℕ) → Done p c told → InStep c n → Claim (recordsOf p (done c told)) (printedBy (from p n k j) c)
+  command-claim : (c : Command) (told : ℕ) → Done p c told → InStep c n → Claim (recordsOf p (done c told)) (printedBy (from p n k j) c) Unit
   unfolding shown
   command-claim (Command.Letter b) told h i =
       let a = f .across in let d = f .down in let m = f .kept .fine in let q = h .needs in
-      record { same = rw (exact-across, exact-down); between = (omega arith, tt) }
+      record { same = rw (exact-across, exact-down); between = (omega arith, tt); passedOver = tt }
   command-claim (Command.Control c b) told h i = silent-control (p .settings) _ c told
   command-claim (Command.Escape b) told h i = nothing
   command-claim (Command.Unlisted b) told h i = nothing
   command-claim (Command.UnlistedEscape b) told h i = nothing
-  command-claim Command.Reset told h i = record { same = refl; between = tt }
+  command-claim Command.Reset told h i = record { same = refl; between = tt; passedOver = tt }
   command-claim (Command.Mode c) told h i = nothing
   command-claim (Command.Parameter c m) told h i = nothing
-  command-claim (Command.Feed m) told h i = record { same = refl; between = tt }
-  command-claim (Command.LeftMargin m) told h i = record { same = refl; between = tt }
-  command-claim (Command.RightMargin m) told h i = record { same = refl; between = tt }
-  command-claim (Command.PageLines m) told h i = record { same = refl; between = tt }
-  command-claim (Command.PageInches m) told h i = record { same = refl; between = tt }
+  command-claim (Command.Feed m) told h i = record { same = refl; between = tt; passedOver = tt }
+  command-claim (Command.LeftMargin m) told h i = record { same = refl; between = tt; passedOver = tt }
+  command-claim (Command.RightMargin m) told h i = record { same = refl; between = tt; passedOver = tt }
+  command-claim (Command.PageLines m) told h i = record { same = refl; between = tt; passedOver = tt }
+  command-claim (Command.PageInches m) told h i = record { same = refl; between = tt; passedOver = tt }
   command-claim (Command.Absolute a b) told h i = nothing
   command-claim (Command.Relative a b) told h i = nothing
   command-claim (Command.OpenImage d a b) told h i = nothing
   command-claim (Command.ImageByte d b) told h i =
       let a = f .across in let y = f .down in let m = f .kept .fine in let q = h .needs in
-      record { same = rw (exact-across, exact-down, i); between = (omega arith, tt) }
+      record { same = rw (exact-across, exact-down, i); between = (omega arith, tt); passedOver = tt }
   command-claim (Command.OpenList t) told h i = nothing
   command-claim (Command.ListByte t b) told h i = nothing
   command-claim (Command.EndList t b) told h i = nothing
@@ -124,7 +127,7 @@ stepAfter n p (automatic told) = n
 -- an image byte's event is in step
 abbrev InStepEvent : Event → ℕ → Type 0
 InStepEvent (done c told) n = InStep c n
-InStepEvent (passed c reason) n = Unit
+InStepEvent (passed c reason) n = InStep c n
 InStepEvent (inside c told) n = Unit
 InStepEvent (automatic told) n = Unit
 
@@ -159,30 +162,56 @@ reckoned p n k j (done c told) h i f =
 reckoned p n k j (passed c reason) h i f = record { across = k; down = j; same = refl; follows = f }
 reckoned p n k j (inside c told) h i f = reckoned-control p n k j c told h f
 reckoned p n k j (automatic told) h i f =
-    let r = reckoned-control p n k j Control.LineFeed told h f in
+    let r = reckoned-control p n k j Control.LineFeed told (h .0) f in
     record { across = r .across; down = r .down; same = r .same; follows = record { kept = r .follows .kept; across = r .follows .across; down = r .follows .down } }
 
+-- what is passed over for want of room has none by the reckoning either
+no-room : (p : Printer) (n : ℕ) (k j : Axis) (c : Command) → Unfit p c → InStep c n → Follows p k j → NoRoom (from p n k j) c
+no-room p n k j (Command.Letter b) u i f = let a = f .across in omega arith
+no-room p n k j (Command.Control c b) u i f = tt
+no-room p n k j (Command.Escape b) u i f = tt
+no-room p n k j (Command.Unlisted b) u i f = tt
+no-room p n k j (Command.UnlistedEscape b) u i f = tt
+no-room p n k j Command.Reset u i f = tt
+no-room p n k j (Command.Mode c) u i f = tt
+no-room p n k j (Command.Parameter c m) u i f = tt
+no-room p n k j (Command.Feed m) u i f = tt
+no-room p n k j (Command.LeftMargin m) u i f = tt
+no-room p n k j (Command.RightMargin m) u i f = tt
+no-room p n k j (Command.PageLines m) u i f = tt
+no-room p n k j (Command.PageInches m) u i f = tt
+no-room p n k j (Command.Absolute a b) u i f = tt
+no-room p n k j (Command.Relative a b) u i f = tt
+no-room p n k j (Command.OpenImage d a b) u i f = tt
+no-room p n k j (Command.ImageByte d b) u i f = let a = f .across in omega arith
+no-room p n k j (Command.OpenList t) u i f = tt
+no-room p n k j (Command.ListByte t b) u i f = tt
+no-room p n k j (Command.EndList t b) u i f = tt
+
 event-claim : (p : Printer) (n : ℕ) (k j : Axis) (e : Event) → Legal p e → InStepEvent e n → Follows p k j
-    → Claim (recordsOf p e) (printedAt (from p n k j) e)
+    → Claim (recordsOf p e) (printedAt (from p n k j) e) (RoomAt (from p n k j) (event e))
 unfolding shown
 event-claim p n k j (done c told) h i f = command-claim p n k j f c told h i
-event-claim p n k j (passed c reason) h i f = record { same = refl; between = tt }
+event-claim p n k j (passed c reason) h i f = record { same = refl; between = tt; passedOver = no-room p n k j c (h .unfit) i f }
 event-claim p n k j (inside c told) h i f = silent-control (p .settings) _ c told
-event-claim p n k j (automatic told) h i f = record { same = refl; between = tt }
+event-claim p n k j (automatic told) h i f =
+    let a = f .across in let m = f .kept .fine in let u = h .1 in let v = h .2 in
+    record { same = refl; between = tt; passedOver = omega arith }
 
 -- Events, then what follows them
 
 -- what is claimed of all that comes after a state, with this image step
 abbrev Rest : Printer → ℕ → List Record → List Occurrence → Type 0
-Rest p n rs os = (k j : Axis) → Follows p k j → Claim rs (printed (from p n k j) os)
+Rest p n rs os = (k j : Axis) → Follows p k j → Claim rs (printed (from p n k j) os) (Rooms (from p n k j) os)
 
 event-then : (p : Printer) (n : ℕ) (k j : Axis) (e : Event) (rs : List Record) (os : List Occurrence)
     → Legal p e → InStepEvent e n → Follows p k j → Rest (perform p e) (stepAfter n p e) rs os
-    → Claim (recordsOf p e ++ rs) (printed (from p n k j) (event e ∷ os))
+    → Claim (recordsOf p e ++ rs) (printed (from p n k j) (event e ∷ os)) (Rooms (from p n k j) (event e ∷ os))
 unfolding printed
 event-then p n k j e rs os h i f rest =
     let r = reckoned p n k j e h i f in
-    join (recordsOf p e) rs (printedAt (from p n k j) e) (printed (reckon (from p n k j) e) os) (event-claim p n k j e h i f)
+    join (recordsOf p e) rs (printedAt (from p n k j) e) (printed (reckon (from p n k j) e) os)
+    (RoomAt (from p n k j) (event e)) (Rooms (reckon (from p n k j) e) os) (event-claim p n k j e h i f)
     (rw (r .same) (rest (r .across) (r .down) (r .follows)))
 
 -- events in step with every image step
@@ -191,7 +220,7 @@ AlwaysInStep e = (n : ℕ) → InStepEvent e n
 
 events-then : (p : Printer) (n : ℕ) (k j : Axis) (l : List Event) (rs : List Record) (os : List Occurrence)
     → LegalAll p l → Each AlwaysInStep l → Follows p k j → ((m : ℕ) → Rest (performAll p l) m rs os)
-    → Claim (recordsAll p l ++ rs) (printed (from p n k j) (map event l ++ os))
+    → Claim (recordsAll p l ++ rs) (printed (from p n k j) (map event l ++ os)) (Rooms (from p n k j) (map event l ++ os))
 unfolding performAll recordsAll printed
 events-then p n k j [] rs os h i f rest = rest n k j f
 events-then p n k j (e ∷ l) rs os h i f rest =
@@ -267,7 +296,7 @@ stepping n upper (Waiting.ImageData d m) b h = image h (image-wait d (m - 1) n h
 
 own-in-step : (c : Command) (e : Event) → ((m : ℕ) → InStep c m) → EventOf c e → AlwaysInStep e
 own-in-step c (done x told) h o = rw o h
-own-in-step c (passed x reason) h o = λ m. tt
+own-in-step c (passed x reason) h o = rw o h
 own-in-step c (inside x told) h o = λ m. tt
 own-in-step c (automatic told) h o = λ m. tt
 
@@ -285,18 +314,18 @@ RestOf p w rs os = (n : ℕ) → StepAgrees w n → Rest p n rs os
 image-then : (p : Printer) (n : ℕ) (k j : Axis) (d : Density) (b : ℕ) (w : Waiting) (rs : List Record) (os : List Occurrence)
     → n ≡ imageStep d → StepAgrees w n → Follows p k j → Legal p (attempt p (Command.ImageByte d b) 4)
     → RestOf (performAll p (attempt p (Command.ImageByte d b) 4 ∷ [])) w rs os
-    → Claim (recordsAll p (attempt p (Command.ImageByte d b) 4 ∷ []) ++ rs) (printed (from p n k j) (event (attempt p (Command.ImageByte d b) 4) ∷ os))
+    → Claim (recordsAll p (attempt p (Command.ImageByte d b) 4 ∷ []) ++ rs) (printed (from p n k j) (event (attempt p (Command.ImageByte d b) 4) ∷ os)) (Rooms (from p n k j) (event (attempt p (Command.ImageByte d b) 4) ∷ os))
 unfolding attempt performAll recordsAll
 image-then p n k j d b w rs os i s g =
     pick-elim
-    (λ (e : Event). Legal p e → RestOf (perform p e) w rs os → Claim ((recordsOf p e ++ []) ++ rs) (printed (from p n k j) (event e ∷ os)))
+    (λ (e : Event). Legal p e → RestOf (perform p e) w rs os → Claim ((recordsOf p e ++ []) ++ rs) (printed (from p n k j) (event e ∷ os)) (Rooms (from p n k j) (event e ∷ os)))
     (holds (needsAt p (Command.ImageByte d b) 0))
     (λ _ h rest. event-then p n k j (done (Command.ImageByte d b) 0) rs os h i g (rest n s))
-    (λ _ h rest. event-then p n k j (passed (Command.ImageByte d b) 4) rs os h tt g (rest n s))
+    (λ _ h rest. event-then p n k j (passed (Command.ImageByte d b) 4) rs os h i g (rest n s))
 
 frame-then : (p : Printer) (n : ℕ) (k j : Axis) (f : Frame) (rs : List Record) (os : List Occurrence)
     → LegalAll p (eventsIn p f) → Stepping n f → Follows p k j → RestOf (performAll p (eventsIn p f)) (nextIn f) rs os
-    → Claim (recordsAll p (eventsIn p f) ++ rs) (printed (from p n k j) (map event (eventsIn p f) ++ os))
+    → Claim (recordsAll p (eventsIn p f) ++ rs) (printed (from p n k j) (map event (eventsIn p f) ++ os)) (Rooms (from p n k j) (map event (eventsIn p f) ++ os))
 unfolding performAll recordsAll
 frame-then p n k j (Frame.Waits w) rs os h (waits s) g rest = rest n (s n) k j g
 frame-then p n k j (Frame.Whole c w) rs os h (other i s) g rest =
@@ -316,10 +345,10 @@ pub record Keeps (p : Printer) (n : ℕ) (k j : Axis) : Type 0 where
   pub step : StepAgrees (p .waiting) n
 
 abbrev pub After : Printer → List Record → List Occurrence → Type 0
-After p rs os = (n : ℕ) (k j : Axis) → Keeps p n k j → Claim rs (printed (from p n k j) os)
+After p rs os = (n : ℕ) (k j : Axis) → Keeps p n k j → Claim rs (printed (from p n k j) os) (Rooms (from p n k j) os)
 
 byte-then : (p : Printer) (n : ℕ) (k j : Axis) (b : ℕ) (rs : List Record) (os : List Occurrence) → b ≤ 255 → Keeps p n k j
-    → After (stepOf p b) rs os → Claim (stepRecords p b ++ rs) (printed (from p n k j) (map event (stepEvents p b) ++ os))
+    → After (stepOf p b) rs os → Claim (stepRecords p b ++ rs) (printed (from p n k j) (map event (stepEvents p b) ++ os)) (Rooms (from p n k j) (map event (stepEvents p b) ++ os))
 unfolding stepRecords stepEvents stepOf
 byte-then p n k j b rs os m h rest =
     let o = h .ours in
@@ -329,7 +358,7 @@ byte-then p n k j b rs os m h rest =
     (λ n′ s k′ j′ g. rest n′ k′ j′ (record { ours = step-ours p b m o; across = g .across; down = g .down; step = s }))
 
 pub bytes-then : (p : Printer) (n : ℕ) (k j : Axis) (l : List ℕ) (rs : List Record) (os : List Occurrence) → Bytes l → Keeps p n k j
-    → After (stateAfter p l) rs os → Claim (recordsOver p l ++ rs) (printed (from p n k j) (map event (eventsOver p l) ++ os))
+    → After (stateAfter p l) rs os → Claim (recordsOver p l ++ rs) (printed (from p n k j) (map event (eventsOver p l) ++ os)) (Rooms (from p n k j) (map event (eventsOver p l) ++ os))
 unfolding recordsOver eventsOver stateAfter
 bytes-then p n k j [] rs os m h rest = rest n k j h
 bytes-then p n k j (b ∷ l) rs os m h rest =

@@ -214,7 +214,7 @@ keep p (passed c reason) h k = k
 keep p (inside c told) h k =
     record { fine = keep-control (p .settings) (p .stops) (p .place) c told h (k .fine); stops = k .stops }
 keep p (automatic told) h k =
-    record { fine = keep-control (p .settings) (p .stops) (p .place) Control.LineFeed told h (k .fine); stops = k .stops }
+    record { fine = keep-control (p .settings) (p .stops) (p .place) Control.LineFeed told (h .0) (k .fine); stops = k .stops }
 
 pub keep-all : (p : Printer) (l : List Event) → LegalAll p l → Kept p → Kept (performAll p l)
 unfolding performAll

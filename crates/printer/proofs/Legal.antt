@@ -1,17 +1,18 @@
 -- What is known of an event where it happens, and that the events that the rules decide have it.
-use Prim.Native.Nat.{ℕ, suc, _+_, _*_, _≤_, _<_}
+use Prim.Native.Nat.{ℕ, zero, suc, _+_, _*_, _≤_, _<_}
 use mathlib.Core.Path.{_≡_, refl, _∙_}
-use mathlib.Core.Bool.{Bool, true}
+use mathlib.Core.Bool.{Bool, true, false}
 use mathlib.Core.List.{List, [], _∷_, _++_}
 use native.Mathlib.Omega.{arith}
 use lib.Dec.{leb, ltb, eqb}
 use native.Mathlib.Numerals.{add-one}
 use lib.ListN.{length, getD, length-append}
 use lib.Seq.{getD-append-seam, append-snoc}
-use borrow.Author.Tests.{leb-true, leb-false, ltb-true}
-use Rattle.printer.specs.Tools.{within, holds, Holds, Bytes}
-use Rattle.printer.specs.Settings.{acrossOf, leftOf, edgeOf, lineOf, downOf, columnsOf, linesOf}
-use Rattle.printer.specs.Performing.{Event, done, passed, inside, automatic, perform}
+use borrow.Author.Tests.{leb-true, leb-false, ltb-true, eqb-true, eqb-false}
+use Rattle.printer.specs.Tools.{both, within, _upTo_, holds, Holds, Bytes}
+use Rattle.printer.specs.Widths.{advance, imageStep}
+use Rattle.printer.specs.Settings.{acrossOf, leftOf, rightOf, edgeOf, lineOf, downOf, columnsOf, linesOf}
+use Rattle.printer.specs.Performing.{Event, done, passed, inside, automatic, lineFed, perform}
 use Rattle.printer.specs.Deciding.{inRange, tabNeeds, lineNeeds, controlNeeds, needsAt, attempt, ranged, pagesOfLine, letterEvents, feedAfterReturn, columnFrom, tabEvent, lineFrom, verticalEvents, vertical, controlEvents, decide}
 use Rattle.printer.specs.declared.stops.Stop.{Stop}
 use Rattle.printer.specs.Bounds.{lastOf, listBounds}
@@ -20,6 +21,7 @@ use Rattle.printer.specs.declared.commands.Command.{Command}
 use Rattle.printer.specs.declared.commands.Control.{Control}
 use Rattle.printer.specs.declared.commands.Tabs.{Tabs}
 use Rattle.printer.specs.declared.settings.Settings.{Settings}
+use Rattle.printer.specs.declared.state.Place.{Place}
 use Rattle.printer.specs.declared.state.Printer.{Printer}
 use Rattle.printer.specs.declared.stops.Stops.{Stops}
 use Rattle.printer.proofs.Choices.{pick-elim, holds-fact}
@@ -87,15 +89,44 @@ pub record Done (p : Printer) (c : Command) (told : ℕ) : Type 0 where
   pub needs : Holds (needsAt p c told)
   pub given : Given (p .settings) (p .stops) c
 
-pub record Passed (c : Command) (reason : ℕ) : Type 0 where
+-- a letter or an image byte that is passed over does not fit, a letter at the left margin
+abbrev pub Unfit : Printer → Command → Type 0
+Unfit p (Command.Letter b) =
+    (acrossOf (p .place) ≡ leftOf (p .settings))
+    × (rightOf (p .settings) < acrossOf (p .place) + advance (p .settings .width))
+Unfit p (Command.Control c b) = Unit
+Unfit p (Command.Escape b) = Unit
+Unfit p (Command.Unlisted b) = Unit
+Unfit p (Command.UnlistedEscape b) = Unit
+Unfit p Command.Reset = Unit
+Unfit p (Command.Mode c) = Unit
+Unfit p (Command.Parameter c n) = Unit
+Unfit p (Command.Feed n) = Unit
+Unfit p (Command.LeftMargin n) = Unit
+Unfit p (Command.RightMargin n) = Unit
+Unfit p (Command.PageLines n) = Unit
+Unfit p (Command.PageInches n) = Unit
+Unfit p (Command.Absolute a b) = Unit
+Unfit p (Command.Relative a b) = Unit
+Unfit p (Command.OpenImage d a b) = Unit
+Unfit p (Command.ImageByte d b) = rightOf (p .settings) < acrossOf (p .place) + imageStep d
+Unfit p (Command.OpenList k) = Unit
+Unfit p (Command.ListByte k b) = Unit
+Unfit p (Command.EndList k b) = Unit
+
+pub record Passed (p : Printer) (c : Command) (reason : ℕ) : Type 0 where
   pub bytes : Bytes (spelt c)
   pub known : reason ≤ 5
+  pub unfit : Unfit p c
 
 abbrev pub Legal : Printer → Event → Type 0
 Legal p (done c told) = Done p c told
-Legal p (passed c reason) = Passed c reason
+Legal p (passed c reason) = Passed p c reason
 Legal p (inside c told) = Holds (controlNeeds (p .settings) (p .stops) (p .place) c told)
-Legal p (automatic told) = Holds (lineNeeds (p .settings) (p .place) told)
+Legal p (automatic told) =
+    Holds (lineNeeds (p .settings) (p .place) told)
+    × (acrossOf (p .place) ≡ leftOf (p .settings) → ⊥)
+    × (rightOf (p .settings) < acrossOf (p .place) + advance (p .settings .width))
 
 abbrev pub LegalAll : Printer → List Event → Type 0
 LegalAll p [] = Unit
@@ -104,12 +135,25 @@ LegalAll p (e ∷ l) = Legal p e × LegalAll (perform p e) l
 -- The decisions
 
 legal-attempt : (p : Printer) (c : Command) (reason : ℕ) → reason ≤ 5 → Bytes (spelt c) → InRange c
-    → Given (p .settings) (p .stops) c → Legal p (attempt p c reason)
+    → Given (p .settings) (p .stops) c → (holds (needsAt p c 0) ≡ false → Unfit p c) → Legal p (attempt p c reason)
 unfolding attempt
-legal-attempt p c reason k b r g =
+legal-attempt p c reason k b r g u =
     pick-elim (Legal p) (holds (needsAt p c 0))
     (λ e. record { bytes = b; range = r; needs = holds-fact (needsAt p c 0) e; given = g })
-    (λ _. record { bytes = b; known = k })
+    (λ e. record { bytes = b; known = k; unfit = u e })
+
+-- an order that does not hold
+over : (low high : ℕ) → holds (_upTo_ low high ∷ []) ≡ false → high < low
+over low high e = go (leb low high) refl e
+  where
+    go : (t : Bool) → leb low high ≡ t → both t true ≡ false → high < low
+    go true k h = let z : _≡_ {A = ℕ} 0 1 = cc in absurd (omega arith)
+    go false k h = leb-false low high k
+
+-- an LF goes to the left margin
+fed-left : (s : Settings) (x : Place) (n : ℕ) → acrossOf (lineFed s x n) ≡ leftOf s
+fed-left s x zero = refl
+fed-left s x (suc n) = refl
 
 line-needs : (p : Printer) → Holds (lineNeeds (p .settings) (p .place) (pagesOfLine p))
 line-needs p =
@@ -123,9 +167,17 @@ unfolding letterEvents
 legal-letter p b h =
     pick-elim (LegalAll p) (holds (needsAt p (Command.Letter b) 0))
     (λ e. (record { bytes = h; range = tt; needs = holds-fact (needsAt p (Command.Letter b) 0) e; given = tt }, tt))
-    (λ _. pick-elim (LegalAll p) (eqb (acrossOf (p .place)) (leftOf (p .settings)))
-    (λ _. (record { bytes = h; known = omega arith }, tt))
-    (λ _. (line-needs p, (legal-attempt (perform p (automatic (pagesOfLine p))) (Command.Letter b) 4 (omega arith) h tt tt, tt))))
+    (λ e. let u : rightOf (p .settings) < acrossOf (p .place) + advance (p .settings .width) = over _ _ e in
+    pick-elim (LegalAll p) (eqb (acrossOf (p .place)) (leftOf (p .settings)))
+    (λ f. (record { bytes = h; known = omega arith; unfit = (eqb-true _ _ f, u) }, tt))
+    (λ f. (
+      (line-needs p, eqb-false _ _ f, u),
+      (
+        legal-attempt (perform p (automatic (pagesOfLine p))) (Command.Letter b) 4 (omega arith) h tt tt
+            (λ k. (fed-left (p .settings) (p .place) (pagesOfLine p), over _ _ k)),
+        tt,
+      ),
+    )))
 
 legal-feed : (p : Printer) → LegalAll p (feedAfterReturn p)
 unfolding feedAfterReturn
@@ -142,7 +194,7 @@ longer before n = length-append before (n ∷ []) ∙ add-one (length before)
 legal-tab : (p : Printer) (b : ℕ) (before l : List ℕ) → Bytes (b ∷ []) → before ++ l ≡ columnsOf (p .stops .columns)
     → Legal p (tabEvent (Command.Control Control.HorizontalTab b) (columnFrom (p .settings) (p .place) (suc (length before)) l))
 unfolding columnFrom
-legal-tab p b before [] h e = record { bytes = h; known = omega arith }
+legal-tab p b before [] h e = record { bytes = h; known = omega arith; unfit = tt }
 legal-tab p b before (n ∷ l) h e =
     pick-elim (λ (x : Stop). Legal p (tabEvent (Command.Control Control.HorizontalTab b) x)) (holds (tabNeeds (p .settings) (p .place) n))
     (λ t. record { bytes = h; range = tt; needs = rw (number before n l _ e) (holds-fact (tabNeeds (p .settings) (p .place) n) t); given = tt })
@@ -184,37 +236,37 @@ legal-control p Control.LineFeed b h = (record { bytes = h; range = tt; needs = 
 legal-control p Control.FormFeed b h = (record { bytes = h; range = tt; needs = tt; given = tt }, tt)
 legal-control p Control.HorizontalTab b h = (legal-tab p b [] (columnsOf (p .stops .columns)) h refl, tt)
 legal-control p Control.VerticalTab b h = legal-vertical p b h
-legal-control p Control.Backspace b h = (legal-attempt p _ 3 (omega arith) h tt tt, tt)
+legal-control p Control.Backspace b h = (legal-attempt p _ 3 (omega arith) h tt tt (λ _. tt), tt)
 legal-control p Control.ShiftOut b h = (record { bytes = h; range = tt; needs = tt; given = tt }, tt)
-legal-control p Control.ShiftIn b h = (legal-attempt p _ 2 (omega arith) h tt tt, tt)
+legal-control p Control.ShiftIn b h = (legal-attempt p _ 2 (omega arith) h tt tt (λ _. tt), tt)
 legal-control p Control.Dc2 b h = (record { bytes = h; range = tt; needs = tt; given = tt }, tt)
 legal-control p Control.Dc4 b h = (record { bytes = h; range = tt; needs = tt; given = tt }, tt)
 
 -- range before geometry
 legal-ranged : (p : Printer) (fits : Bool) (c : Command) → Bytes (spelt c) → (fits ≡ true → InRange c)
-    → Given (p .settings) (p .stops) c → LegalAll p (ranged fits c (attempt p c 3) ∷ [])
+    → Given (p .settings) (p .stops) c → Unfit p c → LegalAll p (ranged fits c (attempt p c 3) ∷ [])
 unfolding ranged
-legal-ranged p fits c h r g =
-    (pick-elim (Legal p) fits (λ e. legal-attempt p c 3 (omega arith) h (r e) g) (λ _. record { bytes = h; known = omega arith }), tt)
+legal-ranged p fits c h r g u =
+    (pick-elim (Legal p) fits (λ e. legal-attempt p c 3 (omega arith) h (r e) g (λ _. u)) (λ _. record { bytes = h; known = omega arith; unfit = u }), tt)
 
 pub legal-decide : (p : Printer) (c : Command) → Bytes (spelt c) → Given (p .settings) (p .stops) c → LegalAll p (decide p c)
 legal-decide p (Command.Letter b) h g = legal-letter p b h
 legal-decide p (Command.Control c b) h g = legal-control p c b h
 legal-decide p (Command.Escape b) h g = (record { bytes = h; range = tt; needs = tt; given = tt }, tt)
-legal-decide p (Command.Unlisted b) h g = (record { bytes = h; known = omega arith }, tt)
-legal-decide p (Command.UnlistedEscape b) h g = (record { bytes = h; known = omega arith }, tt)
+legal-decide p (Command.Unlisted b) h g = (record { bytes = h; known = omega arith; unfit = tt }, tt)
+legal-decide p (Command.UnlistedEscape b) h g = (record { bytes = h; known = omega arith; unfit = tt }, tt)
 legal-decide p Command.Reset h g = (record { bytes = h; range = tt; needs = tt; given = tt }, tt)
-legal-decide p (Command.Mode c) h g = (legal-attempt p _ 2 (omega arith) h tt tt, tt)
-legal-decide p (Command.Parameter c n) h g = legal-ranged p (inRange c n) (Command.Parameter c n) h (λ e. e) tt
+legal-decide p (Command.Mode c) h g = (legal-attempt p _ 2 (omega arith) h tt tt (λ _. tt), tt)
+legal-decide p (Command.Parameter c n) h g = legal-ranged p (inRange c n) (Command.Parameter c n) h (λ e. e) tt tt
 legal-decide p (Command.Feed n) h g = (record { bytes = h; range = tt; needs = omega arith; given = tt }, tt)
-legal-decide p (Command.LeftMargin n) h g = (legal-attempt p _ 3 (omega arith) h tt tt, tt)
-legal-decide p (Command.RightMargin n) h g = (legal-attempt p _ 3 (omega arith) h tt tt, tt)
-legal-decide p (Command.PageLines n) h g = legal-ranged p (within 1 127 n) (Command.PageLines n) h (λ _. tt) tt
-legal-decide p (Command.PageInches n) h g = legal-ranged p (within 1 22 n) (Command.PageInches n) h (λ _. tt) tt
-legal-decide p (Command.Absolute a b) h g = (legal-attempt p _ 3 (omega arith) h tt tt, tt)
-legal-decide p (Command.Relative a b) h g = (legal-attempt p _ 3 (omega arith) h tt tt, tt)
+legal-decide p (Command.LeftMargin n) h g = (legal-attempt p _ 3 (omega arith) h tt tt (λ _. tt), tt)
+legal-decide p (Command.RightMargin n) h g = (legal-attempt p _ 3 (omega arith) h tt tt (λ _. tt), tt)
+legal-decide p (Command.PageLines n) h g = legal-ranged p (within 1 127 n) (Command.PageLines n) h (λ _. tt) tt tt
+legal-decide p (Command.PageInches n) h g = legal-ranged p (within 1 22 n) (Command.PageInches n) h (λ _. tt) tt tt
+legal-decide p (Command.Absolute a b) h g = (legal-attempt p _ 3 (omega arith) h tt tt (λ _. tt), tt)
+legal-decide p (Command.Relative a b) h g = (legal-attempt p _ 3 (omega arith) h tt tt (λ _. tt), tt)
 legal-decide p (Command.OpenImage d a b) h g = (record { bytes = h; range = tt; needs = tt; given = tt }, tt)
-legal-decide p (Command.ImageByte d b) h g = (legal-attempt p _ 4 (omega arith) h tt tt, tt)
+legal-decide p (Command.ImageByte d b) h g = (legal-attempt p _ 4 (omega arith) h tt tt (λ e. over _ _ e), tt)
 legal-decide p (Command.OpenList k) h g = (record { bytes = h; range = tt; needs = tt; given = tt }, tt)
-legal-decide p (Command.ListByte k b) h g = (legal-attempt p (Command.ListByte k b) 3 (omega arith) h tt g, tt)
+legal-decide p (Command.ListByte k b) h g = (legal-attempt p (Command.ListByte k b) 3 (omega arith) h tt g (λ _. tt), tt)
 legal-decide p (Command.EndList k b) h g = (record { bytes = h; range = tt; needs = tt; given = g }, tt)

@@ -186,7 +186,7 @@ pub event-fits : (p : Printer) (e : Event) → Legal p e → Kept p → Each Fit
 event-fits p (done c told) h k = command-fits p c told h (k .fine)
 event-fits p (passed c reason) h k = (passed-fits (codeOf c) reason (h .bytes .0) (h .known), tt)
 event-fits p (inside c told) h k = control-fits (p .settings) (p .stops) (p .place) c told h (k .fine)
-event-fits p (automatic told) h k = control-fits (p .settings) (p .stops) (p .place) Control.LineFeed told h (k .fine)
+event-fits p (automatic told) h k = control-fits (p .settings) (p .stops) (p .place) Control.LineFeed told (h .0) (k .fine)
 
 events-fit : (p : Printer) (l : List Event) → LegalAll p l → Kept p → Each FitsBytes (recordsAll p l)
 unfolding recordsAll

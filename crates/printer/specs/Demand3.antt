@@ -1,5 +1,5 @@
 -- Demand 3 in its terms: a list of calls with what came back, and the one claim about it.
-use Prim.Native.Nat.{ℕ, _+_, _≤_}
+use Prim.Native.Nat.{ℕ, _+_, _≤_, _<_}
 use mathlib.Core.Bool.{Bool}
 use mathlib.Core.Path.{_≡_}
 use mathlib.Core.List.{List, [], _∷_, _++_, map}
@@ -9,10 +9,13 @@ use Rattle.printer.specs.Units.{rounded}
 use Rattle.printer.specs.Records.{decodedAll}
 use Rattle.printer.specs.Steps.{stateAfter, eventsOver}
 use Rattle.printer.specs.Calls.{numberOf, startOf, readingOf, outputOf, StartPromise, ReadPromise, LentPromise}
-use Rattle.printer.specs.Reckoning.{Occurrence, start, event, begun, Printed, printed, exact}
+use Rattle.printer.specs.Widths.{advance}
+use Rattle.printer.specs.Performing.{done, passed, inside, automatic}
+use Rattle.printer.specs.Reckoning.{Reckoning, reckonNext, Occurrence, start, event, begun, Printed, printed, exact}
 use Rattle.printer.specs.declared.answers.Report.{Report}
 use Rattle.printer.specs.declared.answers.Reading.{Reading}
 use Rattle.printer.specs.declared.answers.Started.{Started}
+use Rattle.printer.specs.declared.commands.Command.{Command}
 use Rattle.printer.specs.declared.records.Mark.{Mark}
 use Rattle.printer.specs.declared.records.Record.{Record}
 use Rattle.printer.specs.declared.state.Printer.{Printer}
@@ -150,6 +153,46 @@ pub record Between (e : Printed) : Type 0 where
       ≤ e .here .force .measures .right + e .here .across .back
   pub fromTop : e .here .down .back ≤ e .here .down .set + e .here .down .forth
 
+-- a letter is passed over only at the left margin, where it does not fit; an image byte only where its column does not fit
+abbrev pub NoRoom : Reckoning → Command → Type 0
+NoRoom r (Command.Letter b) =
+    (r .force .measures .left + r .across .back ≡ r .across .set + r .across .forth)
+    × (r .force .measures .right + r .across .back < r .across .set + r .across .forth + advance (r .force .width))
+NoRoom r (Command.Control c b) = Unit
+NoRoom r (Command.Escape b) = Unit
+NoRoom r (Command.Unlisted b) = Unit
+NoRoom r (Command.UnlistedEscape b) = Unit
+NoRoom r Command.Reset = Unit
+NoRoom r (Command.Mode c) = Unit
+NoRoom r (Command.Parameter c n) = Unit
+NoRoom r (Command.Feed n) = Unit
+NoRoom r (Command.LeftMargin n) = Unit
+NoRoom r (Command.RightMargin n) = Unit
+NoRoom r (Command.PageLines n) = Unit
+NoRoom r (Command.PageInches n) = Unit
+NoRoom r (Command.Absolute a b) = Unit
+NoRoom r (Command.Relative a b) = Unit
+NoRoom r (Command.OpenImage d a b) = Unit
+NoRoom r (Command.ImageByte d b) =
+    r .force .measures .right + r .across .back < r .across .set + r .across .forth + r .force .step
+NoRoom r (Command.OpenList k) = Unit
+NoRoom r (Command.ListByte k b) = Unit
+NoRoom r (Command.EndList k b) = Unit
+
+-- and an automatic line comes only away from the left margin, where its letter does not fit
+abbrev pub RoomAt : Reckoning → Occurrence → Type 0
+RoomAt r (start resolution) = Unit
+RoomAt r (event (done c told)) = Unit
+RoomAt r (event (passed c reason)) = NoRoom r c
+RoomAt r (event (inside c told)) = Unit
+RoomAt r (event (automatic told)) =
+    (r .force .measures .left + r .across .back < r .across .set + r .across .forth)
+    × (r .force .measures .right + r .across .back < r .across .set + r .across .forth + advance (r .force .width))
+
+abbrev pub Rooms : Reckoning → List Occurrence → Type 0
+Rooms r [] = Unit
+Rooms r (o ∷ l) = RoomAt r o × Rooms (reckonNext r o) l
+
 -- what the reckoning says was printed over a list of calls that begins with a start
 abbrev pub printedOver : Printer → List Call → List Printed
 printedOver p l = printed (begun 300) (occurrences p l)
@@ -159,3 +202,4 @@ pub record Demand3 (p : Printer) (l : List Call) : Type 0 where
   pub noFour : Each NotFour l
   pub same : shown (decodedAll (joined l)) ≡ map dotted (printedOver p l)
   pub between : Each Between (printedOver p l)
+  pub passedOver : Rooms (begun 300) (occurrences p l)

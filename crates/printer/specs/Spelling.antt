@@ -3,7 +3,7 @@ use Prim.Native.Nat.{ℕ, _+_, _≤_}
 use mathlib.Core.Path.{_≡_}
 use mathlib.Core.List.{List, [], _∷_, _++_}
 use mathlib.Core.Logic.{_⊎_}
-use mathlib.Core.Bool.{Bool, true, false}
+use mathlib.Core.Bool.{false}
 use Rattle.printer.specs.Tools.{among}
 use Rattle.printer.specs.Codes.{controlCode, oneCode, twoCode, codeOf}
 use Rattle.printer.specs.Performing.{Event, done, passed, inside, automatic}
