@@ -1,0 +1,3 @@
+pub mod Booleans
+pub mod Needless
+pub mod Attempts
