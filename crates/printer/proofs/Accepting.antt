@@ -47,6 +47,6 @@ pub power-on-typed : (t : Setup) → Typed (powerOn t)
 power-on-typed t =
     record {
       font = omega arith;
-      stops = record { columns = refl; lines = refl; newcolumns = refl; newlines = refl };
+      stops = record { columns = refl; lines = refl; gatheredcolumns = refl; gatheredlines = refl };
       waiting = tt;
     }

@@ -45,8 +45,8 @@ forceOf s t n =
           record {
             columns = columnsOf (t .columns);
             lines = linesOf (t .lines);
-            newcolumns = columnsOf (t .newcolumns);
-            newlines = linesOf (t .newlines);
+            gatheredcolumns = columnsOf (t .gatheredcolumns);
+            gatheredlines = linesOf (t .gatheredlines);
           };
     }
 
@@ -139,9 +139,9 @@ module _ (s : Settings) (t : Stops) (n : ℕ) where
 
   agree-added : (k : Tabs) (b : ℕ) → StopsTyped t → Holds (stopNeeds s t k b) → Agrees s (InForce.addStop here k b) s (stopAdded s t k b)
   agree-added Tabs.Horizontal b y h =
-      (rw (one-more (t .newcolumns .count) (t .newcolumns .stops) b (omega (arith, y .newcolumns))), refl)
+      (rw (one-more (t .gatheredcolumns .count) (t .gatheredcolumns .stops) b (omega (arith, y .gatheredcolumns))), refl)
   agree-added Tabs.Vertical b y h =
-      (rw (one-more (t .newlines .count) (t .newlines .stops) (b * lineOf s) (omega (arith, y .newlines))), refl)
+      (rw (one-more (t .gatheredlines .count) (t .gatheredlines .stops) (b * lineOf s) (omega (arith, y .gatheredlines))), refl)
 
   agree-ended : (k : Tabs) → Agrees s (InForce.endList here k) s (listEnded t k)
   agree-ended Tabs.Horizontal = (refl, refl)

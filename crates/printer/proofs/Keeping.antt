@@ -125,13 +125,13 @@ pub record StopsFine (t : Stops) : Type 0 where
 keep-opened : (t : Stops) (k : Tabs) → StopsFine t → StopsFine (listOpened t k)
 keep-opened t Tabs.Horizontal f =
     record {
-      typed = record { columns = f .typed .columns; lines = f .typed .lines; newcolumns = refl; newlines = f .typed .newlines };
+      typed = record { columns = f .typed .columns; lines = f .typed .lines; gatheredcolumns = refl; gatheredlines = f .typed .gatheredlines };
       columns = f .columns;
       lines = f .lines;
     }
 keep-opened t Tabs.Vertical f =
     record {
-      typed = record { columns = f .typed .columns; lines = f .typed .lines; newcolumns = f .typed .newcolumns; newlines = refl };
+      typed = record { columns = f .typed .columns; lines = f .typed .lines; gatheredcolumns = f .typed .gatheredcolumns; gatheredlines = refl };
       columns = f .columns;
       lines = f .lines;
     }
@@ -143,8 +143,8 @@ keep-added s t Tabs.Horizontal n f =
           record {
             columns = f .typed .columns;
             lines = f .typed .lines;
-            newcolumns = simp length-set (f .typed .newcolumns);
-            newlines = f .typed .newlines;
+            gatheredcolumns = simp length-set (f .typed .gatheredcolumns);
+            gatheredlines = f .typed .gatheredlines;
           };
       columns = f .columns;
       lines = f .lines;
@@ -155,8 +155,8 @@ keep-added s t Tabs.Vertical n f =
           record {
             columns = f .typed .columns;
             lines = f .typed .lines;
-            newcolumns = f .typed .newcolumns;
-            newlines = simp length-set (f .typed .newlines);
+            gatheredcolumns = f .typed .gatheredcolumns;
+            gatheredlines = simp length-set (f .typed .gatheredlines);
           };
       columns = f .columns;
       lines = f .lines;
@@ -165,13 +165,13 @@ keep-added s t Tabs.Vertical n f =
 keep-ended : (t : Stops) (k : Tabs) → Gathered t k → StopsFine t → StopsFine (listEnded t k)
 keep-ended t Tabs.Horizontal g f =
     record {
-      typed = record { columns = f .typed .newcolumns; lines = f .typed .lines; newcolumns = refl; newlines = f .typed .newlines };
+      typed = record { columns = f .typed .gatheredcolumns; lines = f .typed .lines; gatheredcolumns = refl; gatheredlines = f .typed .gatheredlines };
       columns = g;
       lines = f .lines;
     }
 keep-ended t Tabs.Vertical g f =
     record {
-      typed = record { columns = f .typed .columns; lines = f .typed .newlines; newcolumns = f .typed .newcolumns; newlines = refl };
+      typed = record { columns = f .typed .columns; lines = f .typed .gatheredlines; gatheredcolumns = f .typed .gatheredcolumns; gatheredlines = refl };
       columns = f .columns;
       lines = g;
     }

@@ -179,12 +179,12 @@ wait-passed s t Tabs.Vertical before b l h = (omega (arith, mul-le-mul-right (li
 wait-added : (s : Settings) (t : Stops) (k : Tabs) (b : ℕ) → b ≤ 255 → StopsTyped t → Gathered t k → Above s t k b
     → Holds (settingsBounds s) → Holds (stopNeeds s t k b) → Holds (gatheringBounds s (stopAdded s t k b) k b)
 wait-added s t Tabs.Horizontal b m y g a f h = (
-  rw (last-more 32 (t .newcolumns .count) (t .newcolumns .stops) b (y .newcolumns) (h .0)) (omega arith),
-  list-more 32 255 (t .newcolumns .count) (t .newcolumns .stops) b (y .newcolumns) (h .0) a m g,
+  rw (last-more 32 (t .gatheredcolumns .count) (t .gatheredcolumns .stops) b (y .gatheredcolumns) (h .0)) (omega arith),
+  list-more 32 255 (t .gatheredcolumns .count) (t .gatheredcolumns .stops) b (y .gatheredcolumns) (h .0) a m g,
 )
 wait-added s t Tabs.Vertical b m y g a f h = (
-  rw (last-more 16 (t .newlines .count) (t .newlines .stops) (b * lineOf s) (y .newlines) (h .0)) (omega arith),
-  list-more 16 79199 (t .newlines .count) (t .newlines .stops) (b * lineOf s) (y .newlines) (h .0) (a (h .1 .0)) (omega arith) g,
+  rw (last-more 16 (t .gatheredlines .count) (t .gatheredlines .stops) (b * lineOf s) (y .gatheredlines) (h .0)) (omega arith),
+  list-more 16 79199 (t .gatheredlines .count) (t .gatheredlines .stops) (b * lineOf s) (y .gatheredlines) (h .0) (a (h .1 .0)) (omega arith) g,
 )
 
 wait-list : (p : Printer) (k : Tabs) (before b : ℕ) → before < b → b ≤ 255 → Kept p

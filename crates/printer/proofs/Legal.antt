@@ -51,13 +51,13 @@ InRange (Command.EndList k b) = Unit
 
 -- the list being gathered is within its bounds
 abbrev pub Gathered : Stops → Tabs → Type 0
-Gathered t Tabs.Horizontal = Holds (listBounds 32 255 (t .newcolumns .count) (t .newcolumns .stops))
-Gathered t Tabs.Vertical = Holds (listBounds 16 79199 (t .newlines .count) (t .newlines .stops))
+Gathered t Tabs.Horizontal = Holds (listBounds 32 255 (t .gatheredcolumns .count) (t .gatheredcolumns .stops))
+Gathered t Tabs.Vertical = Holds (listBounds 16 79199 (t .gatheredlines .count) (t .gatheredlines .stops))
 
 -- a list byte, made a stop, is above the list's last stop
 abbrev pub Above : Settings → Stops → Tabs → ℕ → Type 0
-Above s t Tabs.Horizontal b = lastOf 0 (columnsOf (t .newcolumns)) < b
-Above s t Tabs.Vertical b = 1 ≤ b * lineOf s → lastOf 0 (linesOf (t .newlines)) < b * lineOf s
+Above s t Tabs.Horizontal b = lastOf 0 (columnsOf (t .gatheredcolumns)) < b
+Above s t Tabs.Vertical b = 1 ≤ b * lineOf s → lastOf 0 (linesOf (t .gatheredlines)) < b * lineOf s
 
 -- what a command gets from what was waited for
 abbrev pub Given : Settings → Stops → Command → Type 0

@@ -63,11 +63,11 @@ lineBounds t = listBounds (pick (t .lineset) 16 0) 79199 (t .lines .count) (t .l
 -- a list being gathered obeys the same, and its last byte, made a stop, is not below its last stop
 abbrev pub gatheringBounds : Settings → Stops → Tabs → ℕ → List Order
 gatheringBounds s t Tabs.Horizontal b =
-    _upTo_ (lastOf 0 (columnsOf (t .newcolumns))) b ∷
-    listBounds 32 255 (t .newcolumns .count) (t .newcolumns .stops)
+    _upTo_ (lastOf 0 (columnsOf (t .gatheredcolumns))) b ∷
+    listBounds 32 255 (t .gatheredcolumns .count) (t .gatheredcolumns .stops)
 gatheringBounds s t Tabs.Vertical b =
-    _upTo_ (lastOf 0 (linesOf (t .newlines))) (b * lineOf s) ∷
-    listBounds 16 79199 (t .newlines .count) (t .newlines .stops)
+    _upTo_ (lastOf 0 (linesOf (t .gatheredlines))) (b * lineOf s) ∷
+    listBounds 16 79199 (t .gatheredlines .count) (t .gatheredlines .stops)
 
 -- what is waited for: image data is 1 to 65,535 columns
 abbrev pub waitingBounds : Settings → Stops → Waiting → List Order
@@ -114,8 +114,8 @@ waitingTyped (Waiting.ImageData d n) = Unit
 pub record StopsTyped (t : Stops) : Type 0 where
   pub columns : length (t .columns .stops) ≡ 32
   pub lines : length (t .lines .stops) ≡ 16
-  pub newcolumns : length (t .newcolumns .stops) ≡ 32
-  pub newlines : length (t .newlines .stops) ≡ 16
+  pub gatheredcolumns : length (t .gatheredcolumns .stops) ≡ 32
+  pub gatheredlines : length (t .gatheredlines .stops) ≡ 16
 
 pub record Typed (p : Printer) : Type 0 where
   pub font : p .settings .face .font ≤ 255

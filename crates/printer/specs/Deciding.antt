@@ -138,9 +138,9 @@ relativeNeeds s x n =
 -- a stop: not past 32 (16); within the right margin, or from 1 to the edge less 1
 abbrev pub stopNeeds : Settings → Stops → Tabs → ℕ → List Order
 stopNeeds s t Tabs.Horizontal n =
-    _upTo_ (suc (t .newcolumns .count)) 32 ∷ _upTo_ (leftOf s + n * columnWidth (s .width)) (rightOf s) ∷ []
+    _upTo_ (suc (t .gatheredcolumns .count)) 32 ∷ _upTo_ (leftOf s + n * columnWidth (s .width)) (rightOf s) ∷ []
 stopNeeds s t Tabs.Vertical n =
-    _upTo_ (suc (t .newlines .count)) 16 ∷ _upTo_ 1 (n * lineOf s) ∷ _upTo_ (suc (n * lineOf s)) (edgeOf s) ∷ []
+    _upTo_ (suc (t .gatheredlines .count)) 16 ∷ _upTo_ 1 (n * lineOf s) ∷ _upTo_ (suc (n * lineOf s)) (edgeOf s) ∷ []
 
 abbrev pub needs : Settings → Stops → Place → Command → ℕ → List Order
 needs s t x (Command.Letter b) told = _upTo_ (acrossOf x + advance (s .width)) (rightOf s) ∷ []

@@ -26,8 +26,8 @@ pub record Measures : Type 0 where
 pub record Lists : Type 0 where
   pub columns : List ℕ
   pub lines : List ℕ
-  pub newcolumns : List ℕ
-  pub newlines : List ℕ
+  pub gatheredcolumns : List ℕ
+  pub gatheredlines : List ℕ
 
 -- what the width of letters and of relative moves depends on, the units of an image column, the measures, the stops
 pub record InForce : Type 0 where
@@ -57,8 +57,8 @@ atStart =
           record {
             columns = 8 ∷ 16 ∷ 24 ∷ 32 ∷ 40 ∷ 48 ∷ 56 ∷ 64 ∷ 72 ∷ [];
             lines = [];
-            newcolumns = [];
-            newlines = [];
+            gatheredcolumns = [];
+            gatheredlines = [];
           };
     }
 
@@ -102,13 +102,13 @@ paperInForce f page skip line =
     }
 
 abbrev listsInForce : InForce → List ℕ → List ℕ → List ℕ → List ℕ → InForce
-listsInForce f columns lines newcolumns newlines =
+listsInForce f columns lines gatheredcolumns gatheredlines =
     record {
       width = f .width;
       draft = f .draft;
       step = f .step;
       measures = f .measures;
-      lists = record { columns = columns; lines = lines; newcolumns = newcolumns; newlines = newlines };
+      lists = record { columns = columns; lines = lines; gatheredcolumns = gatheredcolumns; gatheredlines = gatheredlines };
     }
 
 abbrev lineInForce : InForce → ℕ → InForce
@@ -200,20 +200,20 @@ enforceParameter f Parameter.Master n =
     (pick (bit n 32) (f .width .wideonce) false) (bit n 4) (bit n 2)
 
 abbrev pub openList : InForce → Tabs → InForce
-openList f Tabs.Horizontal = listsInForce f (f .lists .columns) (f .lists .lines) [] (f .lists .newlines)
-openList f Tabs.Vertical = listsInForce f (f .lists .columns) (f .lists .lines) (f .lists .newcolumns) []
+openList f Tabs.Horizontal = listsInForce f (f .lists .columns) (f .lists .lines) [] (f .lists .gatheredlines)
+openList f Tabs.Vertical = listsInForce f (f .lists .columns) (f .lists .lines) (f .lists .gatheredcolumns) []
 
 -- a column, or lines of the amount in force
 abbrev pub addStop : InForce → Tabs → ℕ → InForce
 addStop f Tabs.Horizontal n =
-    listsInForce f (f .lists .columns) (f .lists .lines) (f .lists .newcolumns ++ (n ∷ [])) (f .lists .newlines)
+    listsInForce f (f .lists .columns) (f .lists .lines) (f .lists .gatheredcolumns ++ (n ∷ [])) (f .lists .gatheredlines)
 addStop f Tabs.Vertical n =
-    listsInForce f (f .lists .columns) (f .lists .lines) (f .lists .newcolumns)
-    (f .lists .newlines ++ (n * f .measures .line ∷ []))
+    listsInForce f (f .lists .columns) (f .lists .lines) (f .lists .gatheredcolumns)
+    (f .lists .gatheredlines ++ (n * f .measures .line ∷ []))
 
 abbrev pub endList : InForce → Tabs → InForce
-endList f Tabs.Horizontal = listsInForce f (f .lists .newcolumns) (f .lists .lines) [] (f .lists .newlines)
-endList f Tabs.Vertical = listsInForce f (f .lists .columns) (f .lists .newlines) (f .lists .newcolumns) []
+endList f Tabs.Horizontal = listsInForce f (f .lists .gatheredcolumns) (f .lists .lines) [] (f .lists .gatheredlines)
+endList f Tabs.Vertical = listsInForce f (f .lists .columns) (f .lists .gatheredlines) (f .lists .gatheredcolumns) []
 
 -- the units of an image column, by the paper's numbers and not by the rules' table: ESC K, L, Y, Z
 abbrev pub stepOfImage : Density → ℕ

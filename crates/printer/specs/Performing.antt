@@ -216,16 +216,16 @@ listOpened t Tabs.Horizontal =
       columns = t .columns;
       lines = t .lines;
       lineset = t .lineset;
-      newcolumns = noColumns;
-      newlines = t .newlines;
+      gatheredcolumns = noColumns;
+      gatheredlines = t .gatheredlines;
     }
 listOpened t Tabs.Vertical =
     record {
       columns = t .columns;
       lines = t .lines;
       lineset = t .lineset;
-      newcolumns = t .newcolumns;
-      newlines = noLines;
+      gatheredcolumns = t .gatheredcolumns;
+      gatheredlines = noLines;
     }
 
 -- a vertical stop is n times the line amount, fixed then
@@ -235,35 +235,35 @@ stopAdded s t Tabs.Horizontal n =
       columns = t .columns;
       lines = t .lines;
       lineset = t .lineset;
-      newcolumns = withColumn (t .newcolumns) n;
-      newlines = t .newlines;
+      gatheredcolumns = withColumn (t .gatheredcolumns) n;
+      gatheredlines = t .gatheredlines;
     }
 stopAdded s t Tabs.Vertical n =
     record {
       columns = t .columns;
       lines = t .lines;
       lineset = t .lineset;
-      newcolumns = t .newcolumns;
-      newlines = withLineStop (t .newlines) (n * lineOf s);
+      gatheredcolumns = t .gatheredcolumns;
+      gatheredlines = withLineStop (t .gatheredlines) (n * lineOf s);
     }
 
 -- the list replaces the old one at its end
 abbrev pub listEnded : Stops → Tabs → Stops
 listEnded t Tabs.Horizontal =
     record {
-      columns = t .newcolumns;
+      columns = t .gatheredcolumns;
       lines = t .lines;
       lineset = t .lineset;
-      newcolumns = noColumns;
-      newlines = t .newlines;
+      gatheredcolumns = noColumns;
+      gatheredlines = t .gatheredlines;
     }
 listEnded t Tabs.Vertical =
     record {
       columns = t .columns;
-      lines = t .newlines;
+      lines = t .gatheredlines;
       lineset = true;
-      newcolumns = t .newcolumns;
-      newlines = noLines;
+      gatheredcolumns = t .gatheredcolumns;
+      gatheredlines = noLines;
     }
 
 -- the stops after a command

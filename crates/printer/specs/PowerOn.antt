@@ -57,8 +57,8 @@ powerOnStops =
           record { stops = (8 ∷ 16 ∷ 24 ∷ 32 ∷ 40 ∷ 48 ∷ 56 ∷ 64 ∷ 72 ∷ []) ++ replicate 23 0; count = 9 };
       lines = noLines;
       lineset = false;
-      newcolumns = noColumns;
-      newlines = noLines;
+      gatheredcolumns = noColumns;
+      gatheredlines = noLines;
     }
 
 abbrev pub powerOn : Setup → Printer

@@ -1,6 +1,5 @@
-// The printer that the reader stands in for: its types, and what is computed of its state alone: rounding, widths, power-on, bounds, bytes.
+// The printer that the reader stands in for: its types, and what is computed of its state alone: rounding, widths, power-on, bytes.
 pub mod answers;
-pub mod bounds;
 pub mod commands;
 pub mod records;
 pub mod settings;

@@ -125,8 +125,8 @@ fn power_on_stops() -> Stops
         columns: power_on_columns(),
         lines: no_lines(),
         lineset: false,
-        newcolumns: no_columns(),
-        newlines: no_lines(),
+        gatheredcolumns: no_columns(),
+        gatheredlines: no_lines(),
     }
 }
 

@@ -1,0 +1,15 @@
+-- An empty list is begun, horizontal or vertical.
+use borrow.Author.Needs.{needs}
+use Rattle.commands.proofs.lists.list_opened.Statement.{statement}
+use Rattle.commands.proofs.lists.list_opened.Tie as tie
+
+returns : tie.Need-returns
+returns c = rw (c .before .enum-told .given .1, c .no-columns .ensures)
+
+returns-2 : tie.Need-returns-2
+returns-2 c = rw (c .before .enum-told2 .given .1, c .no-lines .ensures)
+
+pub list-opened-spec : {M : Type 1} → statement M
+list-opened-spec =
+    tie.close
+    (tie.spec (λ c. search needs) (λ c κs. search needs) (λ c. search needs) (λ c κs. search needs) returns returns-2)

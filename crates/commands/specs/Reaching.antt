@@ -1,0 +1,52 @@
+-- Where moves end, if they are allowed.
+use Prim.Native.Nat.{ℕ, _+_, _*_, _-_, _/_, _%_}
+use mathlib.Core.Bool.{Bool, true, false}
+use lib.Dec.{leb, ltb}
+use Rattle.printer.specs.Tools.{pick, both}
+use Rattle.printer.specs.Widths.{columnWidth}
+use Rattle.printer.specs.Performing.{relativeMove}
+use Rattle.printer.specs.declared.settings.Margins.{Margins}
+use Rattle.printer.specs.declared.settings.Width.{Width}
+use Rattle.commands.specs.declared.lines.Depth.{Depth}
+use Rattle.commands.specs.declared.positions.Position.{Position}
+
+-- a position, if a test allows it
+unfoldable pub reach : Bool → ℕ → Position
+reach true n = Position.At n
+reach false n = Position.Outside
+
+-- across, within a margin; down, above the edge
+
+abbrev pub rightward : (from by right : ℕ) → Position
+rightward from by right = reach (leb (from + by) right) (from + by)
+
+abbrev pub leftward : (from by left : ℕ) → Position
+leftward from by left = reach (leb (left + by) from) (from - by)
+
+abbrev pub downward : (from by edge : ℕ) → Position
+downward from by edge = reach (ltb (from + by) edge) (from + by)
+
+-- a signed move of 16 bits, in steps
+abbrev pub relativeTo : Margins → (across n step : ℕ) → Position
+relativeTo m across n step =
+    reach
+    (pick (ltb n 0x8000) (leb (across + n * step) (m .right .0)) (leb (m .left .0 + (0x10000 - n) * step) across))
+    (relativeMove across n step)
+
+-- so many columns as a margin
+
+abbrev pub leftColumn : Width → (n right : ℕ) → Position
+leftColumn w n right = reach (ltb (n * columnWidth w) right) (n * columnWidth w)
+
+abbrev pub rightColumn : Width → (n left : ℕ) → Position
+rightColumn w n left =
+    reach (both (ltb left (n * columnWidth w)) (leb (n * columnWidth w) 28800)) (n * columnWidth w)
+
+-- so many lines as a stop
+abbrev pub lineStop : (line edge count n : ℕ) → Position
+lineStop line edge count n =
+    reach (both (ltb count 16) (both (leb 1 (n * line)) (ltb (n * line) edge))) (n * line)
+
+-- down by n/180 inch, over edges
+abbrev pub furtherDown : (down n edge : ℕ) → Depth
+furtherDown down n edge = record { down = (down + 20 * n) % edge; pages = (down + 20 * n) / edge % 256 }

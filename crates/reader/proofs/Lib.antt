@@ -1,0 +1,3 @@
+pub mod Writes
+pub mod Turns
+pub mod Types

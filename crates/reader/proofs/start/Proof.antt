@@ -1,0 +1,25 @@
+-- The start, by the two resolutions that it takes.
+use borrow.Author.Needs.{needs}
+use borrow.Author.Tests.{eq-eqb, ne-eqb}
+use Rattle.printer.specs.Calls.{startOf}
+use Rattle.reader.proofs.start.Statement.{statement}
+use Rattle.reader.proofs.start.Tie as tie
+
+returns : tie.Need-returns
+unfolding startOf
+returns c = record { gives = rw (eq-eqb _ _ (c .before .if1 .taken)) (c .started .ensures) }
+
+returns-2 : tie.Need-returns-2
+unfolding startOf
+returns-2 c =
+    record { gives = rw (ne-eqb _ _ (c .before .before .if1 .left), eq-eqb _ _ (c .before .if2 .taken)) (c .started2 .ensures) }
+
+returns-3 : tie.Need-returns-3
+unfolding startOf
+returns-3 c =
+    record { gives = rw (ne-eqb _ _ (c .before .before .if1 .left), ne-eqb _ _ (c .before .if2 .left)) (c .started3 .ensures) }
+
+pub start-spec : {M : Type 1} → statement M
+start-spec =
+    tie.close
+    (tie.spec (λ c κs. search needs) returns (λ c κs. search needs) returns-2 (λ c κs. search needs) returns-3)
