@@ -1,20 +1,20 @@
 -- Demand 3's claim, for events and bytes: the TX and IM records are those of what the reckoning prints, between the margins.
-use Prim.Native.Nat.{ℕ, zero, suc, _+_, _*_, _-_, _≤_}
+use Prim.Native.Nat.{ℕ, _+_, _*_, _-_, _≤_}
 use mathlib.Core.Path.{_≡_, refl}
 use mathlib.Core.Bool.{Bool}
 use mathlib.Core.List.{List, [], _∷_, _++_, map, append-assoc, map-append}
 use native.Mathlib.Omega.{arith}
 use lib.Dec.{leb, eqb}
-use Rattle.printer.specs.Tools.{holds, Each, Bytes}
+use Rattle.printer.specs.Tools.{Each, Bytes}
 use Rattle.printer.specs.Widths.{imageStep}
 use Rattle.printer.specs.Settings.{acrossOf, downOf}
 use Rattle.printer.specs.Framing.{frame, isLetter, readAs, firstOf, secondOf, firstFrame, secondFrame, oneCommand, twoCommand, afterTwo, imageWait}
-use Rattle.printer.specs.Performing.{Event, done, passed, inside, automatic, controlRecords, recordsOf, recordsAll, perform, performAll}
-use Rattle.printer.specs.Deciding.{needsAt, attempt, decide}
+use Rattle.printer.specs.Performing.{Event, done, passed, inside, automatic, recordsOf, recordsAll, perform, performAll}
+use Rattle.printer.specs.Deciding.{attempt, decide}
 use Rattle.printer.specs.Steps.{frameAt, eventsIn, nextIn, stepEvents, stepRecords, stepOf, stateAfter, recordsOver, eventsOver}
 use Rattle.printer.specs.InForce
 use Rattle.printer.specs.InForce.{stepOfImage, enforce}
-use Rattle.printer.specs.Reckoning.{Axis, moved, exact, reckon, Printed, printedBy, printedAt, Occurrence, event, printed, acrossBy, downBy, acrossByControl, downByControl}
+use Rattle.printer.specs.Reckoning.{Axis, moved, exact, reckon, Prints, letter, imageByte, neither, printing, Printed, printedBy, printedAt, Occurrence, event, printed, acrossBy, downBy, acrossByControl, downByControl}
 use Rattle.printer.specs.Demand3.{NoRoom, RoomAt, Rooms, shown, dotted, Between}
 use Rattle.printer.specs.declared.commands.Command.{Command}
 use Rattle.printer.specs.declared.commands.Control.{Control}
@@ -26,15 +26,14 @@ use Rattle.printer.specs.declared.commands.Second.{Second}
 use Rattle.printer.specs.declared.commands.Two.{Two}
 use Rattle.printer.specs.declared.commands.Waiting.{Waiting}
 use Rattle.printer.specs.declared.records.Record.{Record}
-use Rattle.printer.specs.declared.settings.Settings.{Settings}
-use Rattle.printer.specs.declared.state.Place.{Place}
 use Rattle.printer.specs.declared.state.Printer.{Printer}
 use Rattle.printer.proofs.Choices.{pick-elim, each-append, each-map}
 use Rattle.printer.proofs.Spelling.{EventOf, of-decide}
-use Rattle.printer.proofs.Legal.{Unfit, Done, Legal, LegalAll}
+use Rattle.printer.proofs.Legal.{Unfit, Done, Legal, LegalAll, attempted}
 use Rattle.printer.proofs.Keeping.{Kept, keep}
 use Rattle.printer.proofs.KeepingSteps.{Ours, kept, sound, step-ours}
-use Rattle.printer.proofs.Following.{forceOf, from, At, InStep, agree-control, agree, follow-control, follow}
+use Rattle.printer.proofs.Writing.{control-writes, writes}
+use Rattle.printer.proofs.Following.{forceOf, from, At, InStep, follow-control, follow}
 
 -- Claims, and two of them joined
 
@@ -69,19 +68,10 @@ pub record Follows (p : Printer) (k j : Axis) : Type 0 where
   pub across : At k (acrossOf (p .place))
   pub down : At j (downOf (p .place))
 
-silent-control : (s : Settings) (y : Place) (c : Control) (told : ℕ) → Claim (controlRecords s y c told) [] Unit
+silent-control : (p : Printer) (c : Control) (told : ℕ) → Claim (recordsOf p (inside c told)) [] Unit
 unfolding shown
-silent-control s y Control.CarriageReturn told = nothing
-silent-control s y Control.LineFeed told = record { same = refl; between = tt; passedOver = tt }
-silent-control s y Control.FormFeed told = record { same = refl; between = tt; passedOver = tt }
-silent-control s y Control.HorizontalTab told = nothing
-silent-control s y Control.VerticalTab zero = nothing
-silent-control s y Control.VerticalTab (suc n) = record { same = refl; between = tt; passedOver = tt }
-silent-control s y Control.Backspace told = nothing
-silent-control s y Control.ShiftOut told = nothing
-silent-control s y Control.ShiftIn told = nothing
-silent-control s y Control.Dc2 told = nothing
-silent-control s y Control.Dc4 told = nothing
+silent-control p c told =
+    control-writes p (λ (l : List Record). Claim l [] Unit) c told nothing (λ pages m. record { same = refl; between = tt; passedOver = tt })
 
 module _ (p : Printer) (n : ℕ) (k j : Axis) (f : Follows p k j) where
   exact-across : exact k ≡ acrossOf (p .place)
@@ -90,32 +80,21 @@ module _ (p : Printer) (n : ℕ) (k j : Axis) (f : Follows p k j) where
   exact-down : exact j ≡ downOf (p .place)
   exact-down = let d = f .down in omega arith
 
-  command-claim : (c : Command) (told : ℕ) → Done p c told → InStep c n → Claim (recordsOf p (done c told)) (printedBy (from p n k j) c) Unit
+  command-claim : (told : ℕ) (c : Command) → Done p c told → InStep (printing c) n
+      → Claim (recordsOf p (done c told)) (printedBy (from p n k j) (printing c)) Unit
   unfolding shown
-  command-claim (Command.Letter b) told h i =
-      let a = f .across in let d = f .down in let m = f .kept .fine in let q = h .needs in
-      record { same = rw (exact-across, exact-down); between = (omega arith, tt); passedOver = tt }
-  command-claim (Command.Control c b) told h i = silent-control (p .settings) _ c told
-  command-claim (Command.Escape b) told h i = nothing
-  command-claim (Command.Unlisted b) told h i = nothing
-  command-claim (Command.UnlistedEscape b) told h i = nothing
-  command-claim Command.Reset told h i = record { same = refl; between = tt; passedOver = tt }
-  command-claim (Command.Mode c) told h i = nothing
-  command-claim (Command.Parameter c m) told h i = nothing
-  command-claim (Command.Feed m) told h i = record { same = refl; between = tt; passedOver = tt }
-  command-claim (Command.LeftMargin m) told h i = record { same = refl; between = tt; passedOver = tt }
-  command-claim (Command.RightMargin m) told h i = record { same = refl; between = tt; passedOver = tt }
-  command-claim (Command.PageLines m) told h i = record { same = refl; between = tt; passedOver = tt }
-  command-claim (Command.PageInches m) told h i = record { same = refl; between = tt; passedOver = tt }
-  command-claim (Command.Absolute a b) told h i = nothing
-  command-claim (Command.Relative a b) told h i = nothing
-  command-claim (Command.OpenImage d a b) told h i = nothing
-  command-claim (Command.ImageByte d b) told h i =
-      let a = f .across in let y = f .down in let m = f .kept .fine in let q = h .needs in
-      record { same = rw (exact-across, exact-down, i); between = (omega arith, tt); passedOver = tt }
-  command-claim (Command.OpenList t) told h i = nothing
-  command-claim (Command.ListByte t b) told h i = nothing
-  command-claim (Command.EndList t b) told h i = nothing
+  command-claim told =
+      let a = f .across in let d = f .down in let m = f .kept .fine in
+      writes p told (λ (c : Command) (x : Prints) (l : List Record). Done p c told → InStep x n → Claim l (printedBy (from p n k j) x) Unit)
+      (record {
+        silent = λ c h i. nothing;
+        letters = λ b h i. let q = h .needs in
+            record { same = rw (exact-across, exact-down); between = (omega arith, tt); passedOver = tt };
+        images = λ e b h i. let q = h .needs in
+            record { same = rw (exact-across, exact-down, i); between = (omega arith, tt); passedOver = tt };
+        feeds = λ c pages v h i. record { same = refl; between = tt; passedOver = tt };
+        clears = λ c h i. record { same = refl; between = tt; passedOver = tt };
+      })
 
 -- the image step after an event
 abbrev stepAfter : ℕ → Printer → Event → ℕ
@@ -126,8 +105,8 @@ stepAfter n p (automatic told) = n
 
 -- an image byte's event is in step
 abbrev InStepEvent : Event → ℕ → Type 0
-InStepEvent (done c told) n = InStep c n
-InStepEvent (passed c reason) n = InStep c n
+InStepEvent (done c told) n = InStep (printing c) n
+InStepEvent (passed c reason) n = InStep (printing c) n
 InStepEvent (inside c told) n = Unit
 InStepEvent (automatic told) n = Unit
 
@@ -140,24 +119,22 @@ record Reckoned (p : Printer) (n : ℕ) (k j : Axis) (e : Event) : Type 0 where
 
 reckoned-control : (p : Printer) (n : ℕ) (k j : Axis) (c : Control) (told : ℕ) → Legal p (inside c told) → Follows p k j → Reckoned p n k j (inside c told)
 reckoned-control p n k j c told h f =
-    let e = agree-control (p .settings) (p .stops) n c in
     let m = follow-control (p .settings) (p .stops) (p .place) n c told k j h (f .across) (f .down) in
     record {
       across = moved k (acrossByControl (forceOf (p .settings) (p .stops) n) c told);
       down = moved j (downByControl (forceOf (p .settings) (p .stops) n) c told);
-      same = cc (e .0, e .1);
-      follows = record { kept = keep p (inside c told) h (f .kept); across = m .0; down = m .1 };
+      same = cc (m .0 .0, m .0 .1);
+      follows = record { kept = keep p (inside c told) h (f .kept); across = m .1; down = m .2 };
     }
 
 reckoned : (p : Printer) (n : ℕ) (k j : Axis) (e : Event) → Legal p e → InStepEvent e n → Follows p k j → Reckoned p n k j e
 reckoned p n k j (done c told) h i f =
-    let e = agree p n c told h (f .kept .stops .typed) in
-    let m = follow p n c told k j h i (f .kept .fine) (f .across) (f .down) in
+    let m = follow p n c told k j h i (f .kept) (f .across) (f .down) in
     record {
       across = moved k (acrossBy (forceOf (p .settings) (p .stops) n) c told);
       down = moved j (downBy (forceOf (p .settings) (p .stops) n) c told);
-      same = cc (e .0, e .1);
-      follows = record { kept = keep p (done c told) h (f .kept); across = m .0; down = m .1 };
+      same = cc (m .0 .0, m .0 .1);
+      follows = record { kept = keep p (done c told) h (f .kept); across = m .1; down = m .2 };
     }
 reckoned p n k j (passed c reason) h i f = record { across = k; down = j; same = refl; follows = f }
 reckoned p n k j (inside c told) h i f = reckoned-control p n k j c told h f
@@ -166,34 +143,17 @@ reckoned p n k j (automatic told) h i f =
     record { across = r .across; down = r .down; same = r .same; follows = record { kept = r .follows .kept; across = r .follows .across; down = r .follows .down } }
 
 -- what is passed over for want of room has none by the reckoning either
-no-room : (p : Printer) (n : ℕ) (k j : Axis) (c : Command) → Unfit p c → InStep c n → Follows p k j → NoRoom (from p n k j) c
-no-room p n k j (Command.Letter b) u i f = let a = f .across in omega arith
-no-room p n k j (Command.Control c b) u i f = tt
-no-room p n k j (Command.Escape b) u i f = tt
-no-room p n k j (Command.Unlisted b) u i f = tt
-no-room p n k j (Command.UnlistedEscape b) u i f = tt
-no-room p n k j Command.Reset u i f = tt
-no-room p n k j (Command.Mode c) u i f = tt
-no-room p n k j (Command.Parameter c m) u i f = tt
-no-room p n k j (Command.Feed m) u i f = tt
-no-room p n k j (Command.LeftMargin m) u i f = tt
-no-room p n k j (Command.RightMargin m) u i f = tt
-no-room p n k j (Command.PageLines m) u i f = tt
-no-room p n k j (Command.PageInches m) u i f = tt
-no-room p n k j (Command.Absolute a b) u i f = tt
-no-room p n k j (Command.Relative a b) u i f = tt
-no-room p n k j (Command.OpenImage d a b) u i f = tt
-no-room p n k j (Command.ImageByte d b) u i f = let a = f .across in omega arith
-no-room p n k j (Command.OpenList t) u i f = tt
-no-room p n k j (Command.ListByte t b) u i f = tt
-no-room p n k j (Command.EndList t b) u i f = tt
+no-room : (p : Printer) (n : ℕ) (k j : Axis) (x : Prints) → Unfit p x → InStep x n → Follows p k j → NoRoom (from p n k j) x
+no-room p n k j (letter b) u i f = let a = f .across in omega arith
+no-room p n k j (imageByte d b) u i f = let a = f .across in omega arith
+no-room p n k j neither u i f = tt
 
 event-claim : (p : Printer) (n : ℕ) (k j : Axis) (e : Event) → Legal p e → InStepEvent e n → Follows p k j
     → Claim (recordsOf p e) (printedAt (from p n k j) e) (RoomAt (from p n k j) (event e))
 unfolding shown
-event-claim p n k j (done c told) h i f = command-claim p n k j f c told h i
-event-claim p n k j (passed c reason) h i f = record { same = refl; between = tt; passedOver = no-room p n k j c (h .unfit) i f }
-event-claim p n k j (inside c told) h i f = silent-control (p .settings) _ c told
+event-claim p n k j (done c told) h i f = command-claim p n k j f told c h i
+event-claim p n k j (passed c reason) h i f = record { same = refl; between = tt; passedOver = no-room p n k j (printing c) (h .unfit) i f }
+event-claim p n k j (inside c told) h i f = silent-control p c told
 event-claim p n k j (automatic told) h i f =
     let a = f .across in let m = f .kept .fine in let u = h .1 in let v = h .2 in
     record { same = refl; between = tt; passedOver = omega arith }
@@ -245,7 +205,7 @@ StepAgrees (Waiting.ImageData d m) n = n ≡ imageStep d
 -- a byte waits, or is a command other than an image's, or opens an image, or is a byte of one
 data Stepping (n : ℕ) : Frame → Type 0 where
   waits : {w : Waiting} → ((m : ℕ) → StepAgrees w m) → Stepping n (Frame.Waits w)
-  other : {c : Command} {w : Waiting} → ((m : ℕ) → InStep c m) → ((m : ℕ) → StepAgrees w m) → Stepping n (Frame.Whole c w)
+  other : {c : Command} {w : Waiting} → ((m : ℕ) → InStep (printing c) m) → ((m : ℕ) → StepAgrees w m) → Stepping n (Frame.Whole c w)
   opens : {d : Density} {a b : ℕ} {w : Waiting} → StepAgrees w (imageStep d) → Stepping n (Frame.Whole (Command.OpenImage d a b) w)
   image : {d : Density} {b : ℕ} {w : Waiting} → n ≡ imageStep d → StepAgrees w n → Stepping n (Frame.Whole (Command.ImageByte d b) w)
 
@@ -294,7 +254,7 @@ stepping n upper (Waiting.ImageData d m) b h = image h (image-wait d (m - 1) n h
 
 -- A byte, then what follows it
 
-own-in-step : (c : Command) (e : Event) → ((m : ℕ) → InStep c m) → EventOf c e → AlwaysInStep e
+own-in-step : (c : Command) (e : Event) → ((m : ℕ) → InStep (printing c) m) → EventOf c e → AlwaysInStep e
 own-in-step c (done x told) h o = rw o h
 own-in-step c (passed x reason) h o = rw o h
 own-in-step c (inside x told) h o = λ m. tt
@@ -315,11 +275,11 @@ image-then : (p : Printer) (n : ℕ) (k j : Axis) (d : Density) (b : ℕ) (w : W
     → n ≡ imageStep d → StepAgrees w n → Follows p k j → Legal p (attempt p (Command.ImageByte d b) 4)
     → RestOf (performAll p (attempt p (Command.ImageByte d b) 4 ∷ [])) w rs os
     → Claim (recordsAll p (attempt p (Command.ImageByte d b) 4 ∷ []) ++ rs) (printed (from p n k j) (event (attempt p (Command.ImageByte d b) 4) ∷ os)) (Rooms (from p n k j) (event (attempt p (Command.ImageByte d b) 4) ∷ os))
-unfolding attempt performAll recordsAll
+unfolding performAll recordsAll
 image-then p n k j d b w rs os i s g =
-    pick-elim
+    attempted
     (λ (e : Event). Legal p e → RestOf (perform p e) w rs os → Claim ((recordsOf p e ++ []) ++ rs) (printed (from p n k j) (event e ∷ os)) (Rooms (from p n k j) (event e ∷ os)))
-    (holds (needsAt p (Command.ImageByte d b) 0))
+    p (Command.ImageByte d b) 4
     (λ _ h rest. event-then p n k j (done (Command.ImageByte d b) 0) rs os h i g (rest n s))
     (λ _ h rest. event-then p n k j (passed (Command.ImageByte d b) 4) rs os h i g (rest n s))
 

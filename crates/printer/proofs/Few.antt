@@ -1,62 +1,34 @@
 -- An event writes at most one record, and a byte's events at most two.
-use Prim.Native.Nat.{ℕ, zero, suc, _≤_}
+use Prim.Native.Nat.{ℕ, suc, _≤_}
 use mathlib.Core.List.{List, [], _∷_}
 use native.Mathlib.Omega.{arith}
-use lib.Dec.{ltb, eqb}
 use lib.ListN.{length, length-append}
-use Rattle.printer.specs.Tools.{holds}
-use Rattle.printer.specs.Settings.{leftOf, edgeOf, acrossOf, downOf, linesOf}
-use Rattle.printer.specs.Performing.{Event, done, passed, inside, automatic, controlRecords, commandRecords, recordsOf, recordsAll, perform}
-use Rattle.printer.specs.Deciding.{needsAt, pagesOfLine, letterEvents, feedAfterReturn, lineFrom, verticalEvents, vertical, controlEvents, decide}
-use Rattle.printer.specs.declared.stops.Stop.{Stop}
+use Rattle.printer.specs.Performing.{Event, done, passed, inside, automatic, recordsOf, recordsAll, perform}
+use Rattle.printer.specs.Deciding.{feedAfterReturn, decide}
 use Rattle.printer.specs.Steps.{frameAt, eventsIn, stepEvents, stepRecords}
+use Rattle.printer.specs.Reckoning.{Prints}
 use Rattle.printer.specs.declared.commands.Command.{Command}
 use Rattle.printer.specs.declared.commands.Control.{Control}
 use Rattle.printer.specs.declared.commands.Frame.{Frame}
-use Rattle.printer.specs.declared.settings.Settings.{Settings}
-use Rattle.printer.specs.declared.state.Place.{Place}
+use Rattle.printer.specs.declared.records.Record.{Record}
 use Rattle.printer.specs.declared.state.Printer.{Printer}
 use Rattle.printer.proofs.Choices.{pick-elim}
-
-one-control : (s : Settings) (x : Place) (c : Control) (told : ℕ) → length (controlRecords s x c told) ≤ 1
-one-control s x Control.CarriageReturn told = omega arith
-one-control s x Control.LineFeed told = omega arith
-one-control s x Control.FormFeed told = omega arith
-one-control s x Control.HorizontalTab told = omega arith
-one-control s x Control.VerticalTab zero = omega arith
-one-control s x Control.VerticalTab (suc n) = omega arith
-one-control s x Control.Backspace told = omega arith
-one-control s x Control.ShiftOut told = omega arith
-one-control s x Control.ShiftIn told = omega arith
-one-control s x Control.Dc2 told = omega arith
-one-control s x Control.Dc4 told = omega arith
-
-one-command : (s : Settings) (x y : Place) (c : Command) (told : ℕ) → length (commandRecords s x y c told) ≤ 1
-one-command s x y (Command.Letter b) told = omega arith
-one-command s x y (Command.Control c b) told = one-control s y c told
-one-command s x y (Command.Escape b) told = omega arith
-one-command s x y (Command.Unlisted b) told = omega arith
-one-command s x y (Command.UnlistedEscape b) told = omega arith
-one-command s x y Command.Reset told = omega arith
-one-command s x y (Command.Mode c) told = omega arith
-one-command s x y (Command.Parameter c n) told = omega arith
-one-command s x y (Command.Feed n) told = omega arith
-one-command s x y (Command.LeftMargin n) told = omega arith
-one-command s x y (Command.RightMargin n) told = omega arith
-one-command s x y (Command.PageLines n) told = omega arith
-one-command s x y (Command.PageInches n) told = omega arith
-one-command s x y (Command.Absolute a b) told = omega arith
-one-command s x y (Command.Relative a b) told = omega arith
-one-command s x y (Command.OpenImage d a b) told = omega arith
-one-command s x y (Command.ImageByte d b) told = omega arith
-one-command s x y (Command.OpenList k) told = omega arith
-one-command s x y (Command.ListByte k b) told = omega arith
-one-command s x y (Command.EndList k b) told = omega arith
+use Rattle.printer.proofs.Legal.{vt, decided}
+use Rattle.printer.proofs.Writing.{control-writes, writes}
 
 one-record : (p : Printer) (e : Event) → length (recordsOf p e) ≤ 1
-one-record p (done c told) = one-command (p .settings) (p .place) _ c told
+one-record p (done c told) =
+    writes p told (λ (c : Command) (x : Prints) (l : List Record). length l ≤ 1)
+    (record {
+      silent = λ c. omega arith;
+      letters = λ b. omega arith;
+      images = λ d b. omega arith;
+      feeds = λ c pages m. omega arith;
+      clears = λ c. omega arith;
+    })
+    c
 one-record p (passed c reason) = omega arith
-one-record p (inside c told) = one-control (p .settings) _ c told
+one-record p (inside c told) = control-writes p (λ (l : List Record). length l ≤ 1) c told (omega arith) (λ pages m. omega arith)
 one-record p (automatic told) = omega arith
 
 -- at most n records
@@ -82,59 +54,23 @@ unfolding feedAfterReturn
 few-feed p =
     pick-elim (Few 1 p) (p .settings .setup .autofeed) (λ _. few-more 0 p _ [] (few-none _)) (λ _. let k = few-none p in omega arith)
 
-few-letter : (p : Printer) (b : ℕ) → Few 2 p (letterEvents p b)
-unfolding letterEvents
-few-letter p b =
-    pick-elim (Few 2 p) (holds (needsAt p (Command.Letter b) 0)) (λ _. few-one p _)
-    (λ _. pick-elim (Few 2 p) (eqb (acrossOf (p .place)) (leftOf (p .settings))) (λ _. few-one p _) (λ _. few-two p _ _))
-
-few-stop : (p : Printer) (c : Command) (x : Stop) → Few 2 p (verticalEvents p c x)
-few-stop p c (Stop.Found k n) = pick-elim (Few 2 p) (ltb n (edgeOf (p .settings))) (λ _. few-one p _) (λ _. few-two p _ _)
-few-stop p c Stop.Missing = few-two p _ _
-
 -- VT and the CR performed inside it write nothing
-few-vertical : (p : Printer) (b : ℕ) → Few 2 p (vertical p (Command.Control Control.VerticalTab b))
-unfolding vertical recordsAll
-few-vertical p b =
-    pick-elim (Few 2 p) (p .stops .lineset)
-    (λ _. pick-elim (Few 2 p) (eqb (p .stops .lines .count) 0)
-    (λ _. let k = few-feed (perform (perform p (done (Command.Control Control.VerticalTab b) 0)) (inside Control.CarriageReturn 0)) in omega arith)
-    (λ _. few-stop p _ (lineFrom (downOf (p .place)) 1 (linesOf (p .stops .lines)))))
-    (λ _. few-two p (done (Command.Control Control.VerticalTab b) 0) (inside Control.LineFeed (pagesOfLine p)))
-
-few-control : (p : Printer) (c : Control) (b : ℕ) → Few 2 p (controlEvents p c b)
-few-control p Control.CarriageReturn b = few-more 1 p _ _ (few-feed _)
-few-control p Control.LineFeed b = few-one p _
-few-control p Control.FormFeed b = few-one p _
-few-control p Control.HorizontalTab b = few-one p _
-few-control p Control.VerticalTab b = few-vertical p b
-few-control p Control.Backspace b = few-one p _
-few-control p Control.ShiftOut b = few-one p _
-few-control p Control.ShiftIn b = few-one p _
-few-control p Control.Dc2 b = few-one p _
-few-control p Control.Dc4 b = few-one p _
+few-return : (p : Printer) (b : ℕ) (l : List Event) → Few 1 (perform (perform p (done (vt b) 0)) (inside Control.CarriageReturn 0)) l
+    → Few 2 p (done (vt b) 0 ∷ inside Control.CarriageReturn 0 ∷ l)
+unfolding recordsAll
+few-return p b l h = omega arith
 
 few-decide : (p : Printer) (c : Command) → Few 2 p (decide p c)
-few-decide p (Command.Letter b) = few-letter p b
-few-decide p (Command.Control c b) = few-control p c b
-few-decide p (Command.Escape b) = few-one p _
-few-decide p (Command.Unlisted b) = few-one p _
-few-decide p (Command.UnlistedEscape b) = few-one p _
-few-decide p Command.Reset = few-one p _
-few-decide p (Command.Mode c) = few-one p _
-few-decide p (Command.Parameter c n) = few-one p _
-few-decide p (Command.Feed n) = few-one p _
-few-decide p (Command.LeftMargin n) = few-one p _
-few-decide p (Command.RightMargin n) = few-one p _
-few-decide p (Command.PageLines n) = few-one p _
-few-decide p (Command.PageInches n) = few-one p _
-few-decide p (Command.Absolute a b) = few-one p _
-few-decide p (Command.Relative a b) = few-one p _
-few-decide p (Command.OpenImage d a b) = few-one p _
-few-decide p (Command.ImageByte d b) = few-one p _
-few-decide p (Command.OpenList k) = few-one p _
-few-decide p (Command.ListByte k b) = few-one p _
-few-decide p (Command.EndList k b) = few-one p _
+few-decide p =
+    decided p (λ (c : Command) (l : List Event). Few 2 p l)
+    (record {
+      does = λ c told r n. few-one p _;
+      passes = λ c reason k u. few-one p _;
+      wraps = λ b h. few-two p _ _;
+      returns = λ b. few-more 1 p _ _ (few-feed _);
+      performsReturn = λ b. few-return p b _ (few-feed _);
+      performs = λ b x told h. few-two p _ _;
+    })
 
 few-frame : (p : Printer) (f : Frame) → Few 2 p (eventsIn p f)
 few-frame p (Frame.Waits w) = let k = few-none p in omega arith

@@ -18,7 +18,7 @@ use Rattle.printer.specs.Bounds.{StopsTyped}
 use Rattle.printer.specs.InForce
 use Rattle.printer.specs.Reckoning
 use Rattle.printer.specs.InForce.{InForce, odd, enforceControl, enforceMode, enforceParameter, enforce}
-use Rattle.printer.specs.Reckoning.{Axis, moved, acrossByControl, acrossBy, downByControl, downBy, Reckoning}
+use Rattle.printer.specs.Reckoning.{Prints, letter, imageByte, neither, printing, Axis, moved, acrossByControl, acrossBy, downByControl, downBy, Reckoning}
 use Rattle.printer.specs.declared.commands.Command.{Command}
 use Rattle.printer.specs.declared.commands.Control.{Control}
 use Rattle.printer.specs.declared.commands.Mode.{Mode}
@@ -31,7 +31,7 @@ use Rattle.printer.specs.declared.stops.Stops.{Stops}
 use Rattle.printer.proofs.Choices.{either-elim, within-fact}
 use Rattle.printer.proofs.StopLists.{one-more}
 use Rattle.printer.proofs.Legal.{Done}
-use Rattle.printer.proofs.Keeping.{Fine}
+use Rattle.printer.proofs.Keeping.{Kept}
 
 -- what is in force by a state's settings and stops, and an image step
 abbrev pub forceOf : Settings → Stops → ℕ → InForce
@@ -88,18 +88,6 @@ module _ (s : Settings) (t : Stops) (n : ℕ) where
   abbrev pub here : InForce
   here = forceOf s t n
 
-  pub agree-control : (c : Control) → Agrees s (enforceControl here c) (controlSettings s c) t
-  agree-control Control.CarriageReturn = (refl, refl)
-  agree-control Control.LineFeed = (refl, refl)
-  agree-control Control.FormFeed = (refl, refl)
-  agree-control Control.HorizontalTab = (refl, refl)
-  agree-control Control.VerticalTab = (refl, refl)
-  agree-control Control.Backspace = (refl, refl)
-  agree-control Control.ShiftOut = (refl, refl)
-  agree-control Control.ShiftIn = (refl, refl)
-  agree-control Control.Dc2 = (refl, refl)
-  agree-control Control.Dc4 = (refl, refl)
-
   agree-mode : (c : Mode) → Agrees s (enforceMode here c) (modeSettings s c) t
   agree-mode Mode.EighthInchLine = (refl, refl)
   agree-mode Mode.SixthInchLine = (refl, refl)
@@ -147,30 +135,7 @@ module _ (s : Settings) (t : Stops) (n : ℕ) where
   agree-ended Tabs.Horizontal = (refl, refl)
   agree-ended Tabs.Vertical = (refl, refl)
 
-pub agree : (p : Printer) (n : ℕ) (c : Command) (told : ℕ) → Done p c told → StopsTyped (p .stops)
-    → Agrees (p .settings) (enforce (forceOf (p .settings) (p .stops) n) c) (settingsAfter (p .settings) c) (stopsAfter (p .settings) (p .stops) c)
-agree p n (Command.Letter b) told h y = (refl, refl)
-agree p n (Command.Control c b) told h y = agree-control (p .settings) (p .stops) n c
-agree p n (Command.Escape b) told h y = (refl, refl)
-agree p n (Command.Unlisted b) told h y = (refl, refl)
-agree p n (Command.UnlistedEscape b) told h y = (refl, refl)
-agree p n Command.Reset told h y = (refl, refl)
-agree p n (Command.Mode c) told h y = agree-mode (p .settings) (p .stops) n c
-agree p n (Command.Parameter c m) told h y = agree-parameter (p .settings) (p .stops) n c m (h .range)
-agree p n (Command.Feed m) told h y = (refl, refl)
-agree p n (Command.LeftMargin m) told h y = (refl, refl)
-agree p n (Command.RightMargin m) told h y = (refl, refl)
-agree p n (Command.PageLines m) told h y = (refl, refl)
-agree p n (Command.PageInches m) told h y = (refl, refl)
-agree p n (Command.Absolute a b) told h y = (refl, refl)
-agree p n (Command.Relative a b) told h y = (refl, refl)
-agree p n (Command.OpenImage d a b) told h y = (refl, refl)
-agree p n (Command.ImageByte d b) told h y = (refl, refl)
-agree p n (Command.OpenList k) told h y = agree-opened (p .settings) (p .stops) n k
-agree p n (Command.ListByte k b) told h y = agree-added (p .settings) (p .stops) n k b y (h .needs)
-agree p n (Command.EndList k b) told h y = agree-ended (p .settings) (p .stops) n k
-
--- The reckoned places
+-- The reckoned places, and what is in force, after a command
 
 -- the reckoned place is this number
 abbrev pub At : Axis → ℕ → Type 0
@@ -178,21 +143,22 @@ At k n = k .set + k .forth ≡ n + k .back
 
 module _ (s : Settings) (t : Stops) (x : Place) (n : ℕ) where
   pub follow-control : (c : Control) (told : ℕ) (k j : Axis) → Holds (controlNeeds s t x c told) → At k (acrossOf x) → At j (downOf x)
-      → At (moved k (acrossByControl (forceOf s t n) c told)) (acrossOf (controlPlace s t x c told))
+      → Agrees s (enforceControl (forceOf s t n) c) (controlSettings s c) t
+      × At (moved k (acrossByControl (forceOf s t n) c told)) (acrossOf (controlPlace s t x c told))
       × At (moved j (downByControl (forceOf s t n) c told)) (downOf (controlPlace s t x c told))
-  follow-control Control.CarriageReturn told k j h a d = (refl, d)
-  follow-control Control.LineFeed zero k j h a d = (refl, omega arith)
-  follow-control Control.LineFeed (suc m) k j h a d = (refl, refl)
-  follow-control Control.FormFeed told k j h a d = (refl, refl)
-  follow-control Control.HorizontalTab zero k j h a d = (a, d)
-  follow-control Control.HorizontalTab (suc m) k j h a d = (refl, d)
-  follow-control Control.VerticalTab zero k j h a d = (a, d)
-  follow-control Control.VerticalTab (suc m) k j h a d = (refl, refl)
-  follow-control Control.Backspace told k j h a d = (omega arith, d)
-  follow-control Control.ShiftOut told k j h a d = (a, d)
-  follow-control Control.ShiftIn told k j h a d = (a, d)
-  follow-control Control.Dc2 told k j h a d = (a, d)
-  follow-control Control.Dc4 told k j h a d = (a, d)
+  follow-control Control.CarriageReturn told k j h a d = ((refl, refl), refl, d)
+  follow-control Control.LineFeed zero k j h a d = ((refl, refl), refl, omega arith)
+  follow-control Control.LineFeed (suc m) k j h a d = ((refl, refl), refl, refl)
+  follow-control Control.FormFeed told k j h a d = ((refl, refl), refl, refl)
+  follow-control Control.HorizontalTab zero k j h a d = ((refl, refl), a, d)
+  follow-control Control.HorizontalTab (suc m) k j h a d = ((refl, refl), refl, d)
+  follow-control Control.VerticalTab zero k j h a d = ((refl, refl), a, d)
+  follow-control Control.VerticalTab (suc m) k j h a d = ((refl, refl), refl, refl)
+  follow-control Control.Backspace told k j h a d = ((refl, refl), omega arith, d)
+  follow-control Control.ShiftOut told k j h a d = ((refl, refl), a, d)
+  follow-control Control.ShiftIn told k j h a d = ((refl, refl), a, d)
+  follow-control Control.Dc2 told k j h a d = ((refl, refl), a, d)
+  follow-control Control.Dc4 told k j h a d = ((refl, refl), a, d)
 
 -- ESC \: the signed number of steps, forth by the two bytes and back by 65,536 if it is negative
 module _ (k : Axis) (x n m step : ℕ) (e : At k x) where
@@ -214,54 +180,38 @@ follow-relative s t x n a b k ha hb h e = go (ltb (a + 256 * b) 0x8000) refl h
         rw (le-leb 128 b (omega arith))
         (forth-back k (acrossOf x) (a + 256 * b) (0x10000 - (a + 256 * b)) (relativeStep s) e (omega arith) (omega arith))
 
--- a command's image byte moves by the step in force, which is that of its opening
-abbrev pub InStep : Command → ℕ → Type 0
-InStep (Command.Letter b) n = Unit
-InStep (Command.Control c b) n = Unit
-InStep (Command.Escape b) n = Unit
-InStep (Command.Unlisted b) n = Unit
-InStep (Command.UnlistedEscape b) n = Unit
-InStep Command.Reset n = Unit
-InStep (Command.Mode c) n = Unit
-InStep (Command.Parameter c m) n = Unit
-InStep (Command.Feed m) n = Unit
-InStep (Command.LeftMargin m) n = Unit
-InStep (Command.RightMargin m) n = Unit
-InStep (Command.PageLines m) n = Unit
-InStep (Command.PageInches m) n = Unit
-InStep (Command.Absolute a b) n = Unit
-InStep (Command.Relative a b) n = Unit
-InStep (Command.OpenImage d a b) n = Unit
-InStep (Command.ImageByte d b) n = n ≡ imageStep d
-InStep (Command.OpenList k) n = Unit
-InStep (Command.ListByte k b) n = Unit
-InStep (Command.EndList k b) n = Unit
+-- an image byte moves by the step in force, which is that of its opening
+abbrev pub InStep : Prints → ℕ → Type 0
+InStep (letter b) n = Unit
+InStep (imageByte d b) n = n ≡ imageStep d
+InStep neither n = Unit
 
-pub follow : (p : Printer) (n : ℕ) (c : Command) (told : ℕ) (k j : Axis) → Done p c told → InStep c n → Fine (p .settings) (p .place)
+pub follow : (p : Printer) (n : ℕ) (c : Command) (told : ℕ) (k j : Axis) → Done p c told → InStep (printing c) n → Kept p
     → At k (acrossOf (p .place)) → At j (downOf (p .place))
-    → At (moved k (acrossBy (forceOf (p .settings) (p .stops) n) c told)) (acrossOf (placeAfter (p .settings) (p .stops) (p .place) c told))
+    → Agrees (p .settings) (enforce (forceOf (p .settings) (p .stops) n) c) (settingsAfter (p .settings) c) (stopsAfter (p .settings) (p .stops) c)
+    × At (moved k (acrossBy (forceOf (p .settings) (p .stops) n) c told)) (acrossOf (placeAfter (p .settings) (p .stops) (p .place) c told))
     × At (moved j (downBy (forceOf (p .settings) (p .stops) n) c told)) (downOf (placeAfter (p .settings) (p .stops) (p .place) c told))
-follow p n (Command.Letter b) told k j h i f a d = (omega arith, d)
+follow p n (Command.Letter b) told k j h i f a d = ((refl, refl), omega arith, d)
 follow p n (Command.Control c b) told k j h i f a d = follow-control (p .settings) (p .stops) (p .place) n c told k j (h .needs) a d
-follow p n (Command.Escape b) told k j h i f a d = (a, d)
-follow p n (Command.Unlisted b) told k j h i f a d = (a, d)
-follow p n (Command.UnlistedEscape b) told k j h i f a d = (a, d)
-follow p n Command.Reset told k j h i f a d = (refl, refl)
-follow p n (Command.Mode c) told k j h i f a d = (a, d)
-follow p n (Command.Parameter c m) told k j h i f a d = (a, d)
+follow p n (Command.Escape b) told k j h i f a d = ((refl, refl), a, d)
+follow p n (Command.Unlisted b) told k j h i f a d = ((refl, refl), a, d)
+follow p n (Command.UnlistedEscape b) told k j h i f a d = ((refl, refl), a, d)
+follow p n Command.Reset told k j h i f a d = ((refl, refl), refl, refl)
+follow p n (Command.Mode c) told k j h i f a d = (agree-mode (p .settings) (p .stops) n c, a, d)
+follow p n (Command.Parameter c m) told k j h i f a d = (agree-parameter (p .settings) (p .stops) n c m (h .range c m refl), a, d)
 follow p n (Command.Feed m) told k j h i f a d =
     let q = h .needs in
     let v : told ≡ (downOf (p .place) + 20 * m) / edgeOf (p .settings) = omega arith in
-    (a, rw v (omega (arith, div-add-mod' (downOf (p .place) + 20 * m) (edgeOf (p .settings)))))
-follow p n (Command.LeftMargin m) told k j h i f a d = (refl, d)
-follow p n (Command.RightMargin m) told k j h i f a d = (refl, d)
-follow p n (Command.PageLines m) told k j h i f a d = (a, refl)
-follow p n (Command.PageInches m) told k j h i f a d = (a, refl)
-follow p n (Command.Absolute u b) told k j h i f a d = (refl, d)
+    ((refl, refl), a, rw v (omega (arith, div-add-mod' (downOf (p .place) + 20 * m) (edgeOf (p .settings)))))
+follow p n (Command.LeftMargin m) told k j h i f a d = ((refl, refl), refl, d)
+follow p n (Command.RightMargin m) told k j h i f a d = ((refl, refl), refl, d)
+follow p n (Command.PageLines m) told k j h i f a d = ((refl, refl), a, refl)
+follow p n (Command.PageInches m) told k j h i f a d = ((refl, refl), a, refl)
+follow p n (Command.Absolute u b) told k j h i f a d = ((refl, refl), refl, d)
 follow p n (Command.Relative u b) told k j h i f a d =
-    (follow-relative (p .settings) (p .stops) (p .place) n u b k (h .bytes .1 .0) (h .bytes .1 .1 .0) (h .needs) a, d)
-follow p n (Command.OpenImage u b m) told k j h i f a d = (a, d)
-follow p n (Command.ImageByte u b) told k j h i f a d = (omega arith, d)
-follow p n (Command.OpenList u) told k j h i f a d = (a, d)
-follow p n (Command.ListByte u b) told k j h i f a d = (a, d)
-follow p n (Command.EndList u b) told k j h i f a d = (a, d)
+    ((refl, refl), follow-relative (p .settings) (p .stops) (p .place) n u b k (h .bytes .1 .0) (h .bytes .1 .1 .0) (h .needs) a, d)
+follow p n (Command.OpenImage u b m) told k j h i f a d = ((refl, refl), a, d)
+follow p n (Command.ImageByte u b) told k j h i f a d = ((refl, refl), omega arith, d)
+follow p n (Command.OpenList u) told k j h i f a d = (agree-opened (p .settings) (p .stops) n u, a, d)
+follow p n (Command.ListByte u b) told k j h i f a d = (agree-added (p .settings) (p .stops) n u b (f .stops .typed) (h .needs), a, d)
+follow p n (Command.EndList u b) told k j h i f a d = (agree-ended (p .settings) (p .stops) n u, a, d)

@@ -10,7 +10,7 @@ use lib.ListN.{length-set}
 use borrow.Author.Tests.{leb-true}
 use Rattle.printer.specs.Tools.{pick, _upTo_, Holds}
 use Rattle.printer.specs.Settings.{leftOf, rightOf, edgeOf, relativeStep, acrossOf, downOf, at}
-use Rattle.printer.specs.Performing.{Event, done, passed, inside, automatic, settingsAfter, modeSettings, controlSettings, parameterSettings, placeAfter, controlPlace, listOpened, stopAdded, listEnded, stopsAfter, relativeMove, perform, performAll}
+use Rattle.printer.specs.Performing.{Event, done, passed, inside, automatic, modeSettings, controlSettings, parameterSettings, controlPlace, listOpened, stopAdded, listEnded, relativeMove, perform, performAll}
 use Rattle.printer.specs.Deciding.{inRange, parameterNeeds, relativeNeeds, needs, controlNeeds}
 use Rattle.printer.specs.Bounds.{settingsBounds, placeBounds, columnBounds, lineBounds, StopsTyped}
 use Rattle.printer.specs.declared.commands.Command.{Command}
@@ -23,7 +23,7 @@ use Rattle.printer.specs.declared.state.Place.{Place}
 use Rattle.printer.specs.declared.state.Printer.{Printer}
 use Rattle.printer.specs.declared.stops.Stops.{Stops}
 use Rattle.printer.proofs.Accepting.{power-on-accepted, power-on-typed}
-use Rattle.printer.proofs.Legal.{Gathered, Given, Done, Legal, LegalAll}
+use Rattle.printer.proofs.Legal.{Gathered, Done, Legal, LegalAll}
 
 -- settings and place within their bounds, and the font a byte
 abbrev pub Fine : Settings → Place → Type 0
@@ -89,33 +89,6 @@ keep-relative s x n h f = go (ltb n 0x8000) h
     go true k = omega arith
     go false k = omega arith
 
-pub keep-place : (p : Printer) (c : Command) (told : ℕ) → Done p c told → Fine (p .settings) (p .place)
-    → Fine (settingsAfter (p .settings) c) (placeAfter (p .settings) (p .stops) (p .place) c told)
-keep-place p (Command.Letter b) told h f = let k = h .needs in omega arith
-keep-place p (Command.Control c b) told h f = keep-control (p .settings) (p .stops) (p .place) c told (h .needs) f
-keep-place p (Command.Escape b) told h f = f
-keep-place p (Command.Unlisted b) told h f = f
-keep-place p (Command.UnlistedEscape b) told h f = f
-keep-place p Command.Reset told h f =
-    let a = power-on-accepted (p .settings .setup) in (a .settings, a .place, omega arith)
-keep-place p (Command.Mode c) told h f = keep-mode (p .settings) (p .place) c f
-keep-place p (Command.Parameter c n) told h f =
-    keep-parameter (p .settings) (p .place) c n (h .bytes .1 .0) (h .range) (h .needs) f
-keep-place p (Command.Feed n) told h f =
-    let k : (downOf (p .place) + 20 * n) % edgeOf (p .settings) < edgeOf (p .settings) = mod-lt (downOf (p .place) + 20 * n) (omega arith) in
-    omega arith
-keep-place p (Command.LeftMargin n) told h f = let k = h .needs in omega arith
-keep-place p (Command.RightMargin n) told h f = let k = h .needs in omega arith
-keep-place p (Command.PageLines n) told h f = let k = h .needs in omega arith
-keep-place p (Command.PageInches n) told h f = let k = h .needs in omega arith
-keep-place p (Command.Absolute a b) told h f = let k = h .needs in omega arith
-keep-place p (Command.Relative a b) told h f = keep-relative (p .settings) (p .place) (a + 256 * b) (h .needs) f
-keep-place p (Command.OpenImage d a b) told h f = f
-keep-place p (Command.ImageByte d b) told h f = let k = h .needs in omega arith
-keep-place p (Command.OpenList k) told h f = f
-keep-place p (Command.ListByte k b) told h f = f
-keep-place p (Command.EndList k b) told h f = f
-
 -- stops within their bounds, in arrays of their lengths
 pub record StopsFine (t : Stops) : Type 0 where
   pub typed : StopsTyped t
@@ -176,40 +149,46 @@ keep-ended t Tabs.Vertical g f =
       lines = g;
     }
 
-keep-stops : (p : Printer) (c : Command) → Given (p .settings) (p .stops) c → StopsFine (p .stops)
-    → StopsFine (stopsAfter (p .settings) (p .stops) c)
-keep-stops p (Command.Letter b) g f = f
-keep-stops p (Command.Control c b) g f = f
-keep-stops p (Command.Escape b) g f = f
-keep-stops p (Command.Unlisted b) g f = f
-keep-stops p (Command.UnlistedEscape b) g f = f
-keep-stops p Command.Reset g f =
-    let a = power-on-accepted (p .settings .setup) in
-    record { typed = power-on-typed (p .settings .setup) .stops; columns = a .columns; lines = a .lines }
-keep-stops p (Command.Mode c) g f = f
-keep-stops p (Command.Parameter c n) g f = f
-keep-stops p (Command.Feed n) g f = f
-keep-stops p (Command.LeftMargin n) g f = f
-keep-stops p (Command.RightMargin n) g f = f
-keep-stops p (Command.PageLines n) g f = f
-keep-stops p (Command.PageInches n) g f = f
-keep-stops p (Command.Absolute a b) g f = f
-keep-stops p (Command.Relative a b) g f = f
-keep-stops p (Command.OpenImage d a b) g f = f
-keep-stops p (Command.ImageByte d b) g f = f
-keep-stops p (Command.OpenList k) g f = keep-opened (p .stops) k f
-keep-stops p (Command.ListByte k b) g f = keep-added (p .settings) (p .stops) k b f
-keep-stops p (Command.EndList k b) g f = keep-ended (p .stops) k g f
-
 -- Events
 
 pub record Kept (p : Printer) : Type 0 where
   pub fine : Fine (p .settings) (p .place)
   pub stops : StopsFine (p .stops)
 
+pub keep-done : (p : Printer) (c : Command) (told : ℕ) → Done p c told → Kept p → Kept (perform p (done c told))
+keep-done p (Command.Letter b) told h k = let n = h .needs in record { fine = omega arith; stops = k .stops }
+keep-done p (Command.Control c b) told h k =
+    record { fine = keep-control (p .settings) (p .stops) (p .place) c told (h .needs) (k .fine); stops = k .stops }
+keep-done p (Command.Escape b) told h k = k
+keep-done p (Command.Unlisted b) told h k = k
+keep-done p (Command.UnlistedEscape b) told h k = k
+keep-done p Command.Reset told h k =
+    let a = power-on-accepted (p .settings .setup) in
+    record {
+      fine = (a .settings, a .place, omega arith);
+      stops = record { typed = power-on-typed (p .settings .setup) .stops; columns = a .columns; lines = a .lines };
+    }
+keep-done p (Command.Mode c) told h k = record { fine = keep-mode (p .settings) (p .place) c (k .fine); stops = k .stops }
+keep-done p (Command.Parameter c n) told h k =
+    record { fine = keep-parameter (p .settings) (p .place) c n (h .bytes .1 .0) (h .range c n refl) (h .needs) (k .fine); stops = k .stops }
+keep-done p (Command.Feed n) told h k =
+    let m : (downOf (p .place) + 20 * n) % edgeOf (p .settings) < edgeOf (p .settings) = mod-lt (downOf (p .place) + 20 * n) (omega arith) in
+    record { fine = omega arith; stops = k .stops }
+keep-done p (Command.LeftMargin n) told h k = let m = h .needs in record { fine = omega arith; stops = k .stops }
+keep-done p (Command.RightMargin n) told h k = let m = h .needs in record { fine = omega arith; stops = k .stops }
+keep-done p (Command.PageLines n) told h k = let m = h .needs in record { fine = omega arith; stops = k .stops }
+keep-done p (Command.PageInches n) told h k = let m = h .needs in record { fine = omega arith; stops = k .stops }
+keep-done p (Command.Absolute a b) told h k = let m = h .needs in record { fine = omega arith; stops = k .stops }
+keep-done p (Command.Relative a b) told h k =
+    record { fine = keep-relative (p .settings) (p .place) (a + 256 * b) (h .needs) (k .fine); stops = k .stops }
+keep-done p (Command.OpenImage d a b) told h k = k
+keep-done p (Command.ImageByte d b) told h k = let m = h .needs in record { fine = omega arith; stops = k .stops }
+keep-done p (Command.OpenList t) told h k = record { fine = k .fine; stops = keep-opened (p .stops) t (k .stops) }
+keep-done p (Command.ListByte t b) told h k = record { fine = k .fine; stops = keep-added (p .settings) (p .stops) t b (k .stops) }
+keep-done p (Command.EndList t b) told h k = record { fine = k .fine; stops = keep-ended (p .stops) t (h .given) (k .stops) }
+
 pub keep : (p : Printer) (e : Event) → Legal p e → Kept p → Kept (perform p e)
-keep p (done c told) h k =
-    record { fine = keep-place p c told h (k .fine); stops = keep-stops p c (h .given) (k .stops) }
+keep p (done c told) h k = keep-done p c told h k
 keep p (passed c reason) h k = k
 keep p (inside c told) h k =
     record { fine = keep-control (p .settings) (p .stops) (p .place) c told h (k .fine); stops = k .stops }

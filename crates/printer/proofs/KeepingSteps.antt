@@ -7,12 +7,12 @@ use native.Mathlib.Omega.{arith}
 use native.Mathlib.Nat.{mul-le-mul-right}
 use lib.Dec.{leb, eqb}
 use borrow.Author.Tests.{leb-false, eqb-false}
-use Rattle.printer.specs.Tools.{holds, Holds, Bytes}
+use Rattle.printer.specs.Tools.{Holds, Bytes}
 use Rattle.printer.specs.Settings.{lineOf}
 use Rattle.printer.specs.PowerOn.{powerOn}
 use Rattle.printer.specs.Framing.{frame, imageWait, firstOf, secondOf, readAs, isLetter, firstFrame, secondFrame, oneCommand, twoCommand, afterTwo, listFrame}
 use Rattle.printer.specs.Performing.{Event, stopAdded, perform, performAll}
-use Rattle.printer.specs.Deciding.{stopNeeds, attempt, needsAt, decide}
+use Rattle.printer.specs.Deciding.{stopNeeds, decide}
 use Rattle.printer.specs.Codes.{parameterCode, oneCode, imageCode, twoCode}
 use Rattle.printer.specs.Steps.{frameAt, eventsIn, nextIn, stepEvents, stepOf, stateAfter}
 use Rattle.printer.specs.Spelling.{spelt, pending}
@@ -33,12 +33,12 @@ use Rattle.printer.specs.declared.settings.Settings.{Settings}
 use Rattle.printer.specs.declared.settings.Setup.{Setup}
 use Rattle.printer.specs.declared.state.Printer.{Printer}
 use Rattle.printer.specs.declared.stops.Stops.{Stops}
-use Rattle.printer.proofs.Choices.{pick-elim, holds-fact, bytes-append}
+use Rattle.printer.proofs.Choices.{pick-elim, bytes-append}
 use Rattle.printer.proofs.Accepting.{power-on-accepted, power-on-typed}
 use Rattle.printer.proofs.StopLists.{list-more, last-more}
 use Rattle.printer.proofs.Spelling.{speltIn, frame-spells}
 use Rattle.printer.proofs.Keeping.{Kept, keep-all}
-use Rattle.printer.proofs.Legal.{Gathered, Above, Given, LegalAll, legal-decide}
+use Rattle.printer.proofs.Legal.{Gathered, Above, Given, LegalAll, attempted, legal-decide}
 
 -- Codes are bytes
 
@@ -190,10 +190,10 @@ wait-added s t Tabs.Vertical b m y g a f h = (
 wait-list : (p : Printer) (k : Tabs) (before b : ℕ) → before < b → b ≤ 255 → Kept p
     → Holds (gatheringBounds (p .settings) (p .stops) k before)
     → Waits (performAll p (decide p (Command.ListByte k b))) (Waiting.StopList k b)
-unfolding attempt performAll
+unfolding performAll
 wait-list p k before b l m f h =
-    pick-elim (λ (e : Event). Waits (perform p e) (Waiting.StopList k b)) (holds (needsAt p (Command.ListByte k b) 0))
-    (λ e. wait-added (p .settings) (p .stops) k b m (f .stops .typed) (gathered (p .settings) (p .stops) k before h) (above (p .settings) (p .stops) k before b l h) (f .fine .0) (holds-fact (stopNeeds (p .settings) (p .stops) k b) e))
+    attempted (λ (e : Event). Waits (perform p e) (Waiting.StopList k b)) p (Command.ListByte k b) 3
+    (λ e. wait-added (p .settings) (p .stops) k b m (f .stops .typed) (gathered (p .settings) (p .stops) k before h) (above (p .settings) (p .stops) k before b l h) (f .fine .0) e)
     (λ _. wait-passed (p .settings) (p .stops) k before b l h)
 
 sound-list : (p : Printer) (k : Tabs) (before b : ℕ) → b ≤ 255 → Kept p

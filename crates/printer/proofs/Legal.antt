@@ -17,8 +17,10 @@ use Rattle.printer.specs.Deciding.{inRange, tabNeeds, lineNeeds, control
 use Rattle.printer.specs.declared.stops.Stop.{Stop}
 use Rattle.printer.specs.Bounds.{lastOf, listBounds}
 use Rattle.printer.specs.Spelling.{spelt}
+use Rattle.printer.specs.Reckoning.{Prints, letter, imageByte, neither, printing}
 use Rattle.printer.specs.declared.commands.Command.{Command}
 use Rattle.printer.specs.declared.commands.Control.{Control}
+use Rattle.printer.specs.declared.commands.Parameter.{Parameter}
 use Rattle.printer.specs.declared.commands.Tabs.{Tabs}
 use Rattle.printer.specs.declared.settings.Settings.{Settings}
 use Rattle.printer.specs.declared.state.Place.{Place}
@@ -26,28 +28,9 @@ use Rattle.printer.specs.declared.state.Printer.{Printer}
 use Rattle.printer.specs.declared.stops.Stops.{Stops}
 use Rattle.printer.proofs.Choices.{pick-elim, holds-fact}
 
--- an argument is in its range
+-- a parameter's argument is in its range; of other commands nothing is said
 abbrev pub InRange : Command → Type 0
-InRange (Command.Letter b) = Unit
-InRange (Command.Control c b) = Unit
-InRange (Command.Escape b) = Unit
-InRange (Command.Unlisted b) = Unit
-InRange (Command.UnlistedEscape b) = Unit
-InRange Command.Reset = Unit
-InRange (Command.Mode c) = Unit
-InRange (Command.Parameter c n) = inRange c n ≡ true
-InRange (Command.Feed n) = Unit
-InRange (Command.LeftMargin n) = Unit
-InRange (Command.RightMargin n) = Unit
-InRange (Command.PageLines n) = Unit
-InRange (Command.PageInches n) = Unit
-InRange (Command.Absolute a b) = Unit
-InRange (Command.Relative a b) = Unit
-InRange (Command.OpenImage d a b) = Unit
-InRange (Command.ImageByte d b) = Unit
-InRange (Command.OpenList k) = Unit
-InRange (Command.ListByte k b) = Unit
-InRange (Command.EndList k b) = Unit
+InRange c = (k : Parameter) (n : ℕ) → c ≡ Command.Parameter k n → inRange k n ≡ true
 
 -- the list being gathered is within its bounds
 abbrev pub Gathered : Stops → Tabs → Type 0
@@ -90,34 +73,17 @@ pub record Done (p : Printer) (c : Command) (told : ℕ) : Type 0 where
   pub given : Given (p .settings) (p .stops) c
 
 -- a letter or an image byte that is passed over does not fit, a letter at the left margin
-abbrev pub Unfit : Printer → Command → Type 0
-Unfit p (Command.Letter b) =
+abbrev pub Unfit : Printer → Prints → Type 0
+Unfit p (letter b) =
     (acrossOf (p .place) ≡ leftOf (p .settings))
     × (rightOf (p .settings) < acrossOf (p .place) + advance (p .settings .width))
-Unfit p (Command.Control c b) = Unit
-Unfit p (Command.Escape b) = Unit
-Unfit p (Command.Unlisted b) = Unit
-Unfit p (Command.UnlistedEscape b) = Unit
-Unfit p Command.Reset = Unit
-Unfit p (Command.Mode c) = Unit
-Unfit p (Command.Parameter c n) = Unit
-Unfit p (Command.Feed n) = Unit
-Unfit p (Command.LeftMargin n) = Unit
-Unfit p (Command.RightMargin n) = Unit
-Unfit p (Command.PageLines n) = Unit
-Unfit p (Command.PageInches n) = Unit
-Unfit p (Command.Absolute a b) = Unit
-Unfit p (Command.Relative a b) = Unit
-Unfit p (Command.OpenImage d a b) = Unit
-Unfit p (Command.ImageByte d b) = rightOf (p .settings) < acrossOf (p .place) + imageStep d
-Unfit p (Command.OpenList k) = Unit
-Unfit p (Command.ListByte k b) = Unit
-Unfit p (Command.EndList k b) = Unit
+Unfit p (imageByte d b) = rightOf (p .settings) < acrossOf (p .place) + imageStep d
+Unfit p neither = Unit
 
 pub record Passed (p : Printer) (c : Command) (reason : ℕ) : Type 0 where
   pub bytes : Bytes (spelt c)
   pub known : reason ≤ 5
-  pub unfit : Unfit p c
+  pub unfit : Unfit p (printing c)
 
 abbrev pub Legal : Printer → Event → Type 0
 Legal p (done c told) = Done p c told
@@ -132,15 +98,7 @@ abbrev pub LegalAll : Printer → List Event → Type 0
 LegalAll p [] = Unit
 LegalAll p (e ∷ l) = Legal p e × LegalAll (perform p e) l
 
--- The decisions
-
-legal-attempt : (p : Printer) (c : Command) (reason : ℕ) → reason ≤ 5 → Bytes (spelt c) → InRange c
-    → Given (p .settings) (p .stops) c → (holds (needsAt p c 0) ≡ false → Unfit p c) → Legal p (attempt p c reason)
-unfolding attempt
-legal-attempt p c reason k b r g u =
-    pick-elim (Legal p) (holds (needsAt p c 0))
-    (λ e. record { bytes = b; range = r; needs = holds-fact (needsAt p c 0) e; given = g })
-    (λ e. record { bytes = b; known = k; unfit = u e })
+-- The ways to decide
 
 -- an order that does not hold
 over : (low high : ℕ) → holds (_upTo_ low high ∷ []) ≡ false → high < low
@@ -150,11 +108,6 @@ over low high e = go (leb low high) refl e
     go true k h = let z : _≡_ {A = ℕ} 0 1 = cc in absurd (omega arith)
     go false k h = leb-false low high k
 
--- an LF goes to the left margin
-fed-left : (s : Settings) (x : Place) (n : ℕ) → acrossOf (lineFed s x n) ≡ leftOf s
-fed-left s x zero = refl
-fed-left s x (suc n) = refl
-
 line-needs : (p : Printer) → Holds (lineNeeds (p .settings) (p .place) (pagesOfLine p))
 line-needs p =
     pick-elim (λ (n : ℕ). Holds (lineNeeds (p .settings) (p .place) n))
@@ -162,26 +115,34 @@ line-needs p =
     (λ e. (leb-true _ _ e, (omega arith, tt)))
     (λ e. (leb-false _ _ e, tt))
 
-legal-letter : (p : Printer) (b : ℕ) → Bytes (b ∷ []) → LegalAll p (letterEvents p b)
-unfolding letterEvents
-legal-letter p b h =
-    pick-elim (LegalAll p) (holds (needsAt p (Command.Letter b) 0))
-    (λ e. (record { bytes = h; range = tt; needs = holds-fact (needsAt p (Command.Letter b) 0) e; given = tt }, tt))
-    (λ e. let u : rightOf (p .settings) < acrossOf (p .place) + advance (p .settings .width) = over _ _ e in
-    pick-elim (LegalAll p) (eqb (acrossOf (p .place)) (leftOf (p .settings)))
-    (λ f. (record { bytes = h; known = omega arith; unfit = (eqb-true _ _ f, u) }, tt))
-    (λ f. (
-      (line-needs p, eqb-false _ _ f, u),
-      (
-        legal-attempt (perform p (automatic (pagesOfLine p))) (Command.Letter b) 4 (omega arith) h tt tt
-            (λ k. (fed-left (p .settings) (p .place) (pagesOfLine p), over _ _ k)),
-        tt,
-      ),
-    )))
+pub attempted : (P : Event → Type 0) (p : Printer) (c : Command) (reason : ℕ) → (Holds (needsAt p c 0) → P (done c 0))
+    → (holds (needsAt p c 0) ≡ false → P (passed c reason)) → P (attempt p c reason)
+unfolding attempt
+attempted P p c reason f g = pick-elim P (holds (needsAt p c 0)) (λ e. f (holds-fact (needsAt p c 0) e)) g
 
-legal-feed : (p : Printer) → LegalAll p (feedAfterReturn p)
-unfolding feedAfterReturn
-legal-feed p = pick-elim (LegalAll p) (p .settings .setup .autofeed) (λ _. (line-needs p, tt)) (λ _. tt)
+abbrev pub cr : ℕ → Command
+cr b = Command.Control Control.CarriageReturn b
+
+abbrev pub ht : ℕ → Command
+ht b = Command.Control Control.HorizontalTab b
+
+abbrev pub vt : ℕ → Command
+vt b = Command.Control Control.VerticalTab b
+
+-- a claim about a command and its events, for each way that the rules decide
+pub record Ways (p : Printer) (P : Command → List Event → Type 0) : Type 0 where
+  pub does : (c : Command) (told : ℕ) → InRange c → Holds (needsAt p c told) → P c (done c told ∷ [])
+  pub passes : (c : Command) (reason : ℕ) → reason ≤ 5 → Unfit p (printing c) → P c (passed c reason ∷ [])
+  -- a letter after an automatic line
+  pub wraps : (b : ℕ) → Legal p (automatic (pagesOfLine p))
+      → P (Command.Letter b) (automatic (pagesOfLine p) ∷ attempt (perform p (automatic (pagesOfLine p))) (Command.Letter b) 4 ∷ [])
+  -- CR, and VT performed as CR: an LF may follow
+  pub returns : (b : ℕ) → P (cr b) (done (cr b) 0 ∷ feedAfterReturn (perform p (done (cr b) 0)))
+  pub performsReturn : (b : ℕ)
+      → P (vt b) (done (vt b) 0 ∷ inside Control.CarriageReturn 0 ∷ feedAfterReturn (perform (perform p (done (vt b) 0)) (inside Control.CarriageReturn 0)))
+  -- VT performed as LF or FF
+  pub performs : (b : ℕ) (x : Control) (told : ℕ) → Legal (perform p (done (vt b) 0)) (inside x told)
+      → P (vt b) (done (vt b) 0 ∷ inside x told ∷ [])
 
 -- Searches: the stop found is the one of its number
 
@@ -191,82 +152,112 @@ number before n l whole e = rw (← e) (getD-append-seam before n l 0)
 longer : (before : List ℕ) (n : ℕ) → length (before ++ (n ∷ [])) ≡ suc (length before)
 longer before n = length-append before (n ∷ []) ∙ add-one (length before)
 
-legal-tab : (p : Printer) (b : ℕ) (before l : List ℕ) → Bytes (b ∷ []) → before ++ l ≡ columnsOf (p .stops .columns)
-    → Legal p (tabEvent (Command.Control Control.HorizontalTab b) (columnFrom (p .settings) (p .place) (suc (length before)) l))
-unfolding columnFrom
-legal-tab p b before [] h e = record { bytes = h; known = omega arith; unfit = tt }
-legal-tab p b before (n ∷ l) h e =
-    pick-elim (λ (x : Stop). Legal p (tabEvent (Command.Control Control.HorizontalTab b) x)) (holds (tabNeeds (p .settings) (p .place) n))
-    (λ t. record { bytes = h; range = tt; needs = rw (number before n l _ e) (holds-fact (tabNeeds (p .settings) (p .place) n) t); given = tt })
-    (λ _. rw (longer before n) at (legal-tab p b (before ++ (n ∷ [])) l h (append-snoc before n l ∙ e)))
+module _ (p : Printer) (P : Command → List Event → Type 0) (w : Ways p P) where
+  tried : (c : Command) (reason : ℕ) → reason ≤ 5 → InRange c → (holds (needsAt p c 0) ≡ false → Unfit p (printing c))
+      → P c (attempt p c reason ∷ [])
+  tried c reason k r u = attempted (λ (e : Event). P c (e ∷ [])) p c reason (w .does c 0 r) (λ e. w .passes c reason k (u e))
 
-module _ (p : Printer) (b : ℕ) (h : Bytes (b ∷ [])) where
-  abbrev vt : Command
-  vt = Command.Control Control.VerticalTab b
+  -- range before geometry
+  tried-in-range : (fits : Bool) (c : Command) → (fits ≡ true → InRange c) → Unfit p (printing c) → P c (ranged fits c (attempt p c 3) ∷ [])
+  unfolding ranged
+  tried-in-range fits c r u =
+      pick-elim (λ (e : Event). P c (e ∷ [])) fits (λ e. tried c 3 (omega arith) (r e) (λ _. u)) (λ _. w .passes c 2 (omega arith) u)
 
-  -- VT performed as another command
-  legal-as : (c : Control) (told : ℕ) (l : List Event) → LegalAll (perform p (done vt 0)) (inside c told ∷ l)
-      → LegalAll p (done vt 0 ∷ inside c told ∷ l)
-  legal-as c told l k = (record { bytes = h; range = tt; needs = tt; given = tt }, k)
+  decided-letter : (b : ℕ) → P (Command.Letter b) (letterEvents p b)
+  unfolding letterEvents
+  decided-letter b =
+      pick-elim (P (Command.Letter b)) (holds (needsAt p (Command.Letter b) 0))
+      (λ e. w .does _ 0 (λ k n z. cc) (holds-fact (needsAt p (Command.Letter b) 0) e))
+      (λ e. let u : rightOf (p .settings) < acrossOf (p .place) + advance (p .settings .width) = over _ _ e in
+      pick-elim (P (Command.Letter b)) (eqb (acrossOf (p .place)) (leftOf (p .settings)))
+      (λ f. w .passes _ 4 (omega arith) (eqb-true _ _ f, u))
+      (λ f. w .wraps b (line-needs p, eqb-false _ _ f, u)))
 
-  legal-stop : (before l : List ℕ) → before ++ l ≡ linesOf (p .stops .lines)
-      → LegalAll p (verticalEvents p vt (lineFrom (downOf (p .place)) (suc (length before)) l))
+  decided-tab : (b : ℕ) (before l : List ℕ) → before ++ l ≡ columnsOf (p .stops .columns)
+      → P (ht b) (tabEvent (ht b) (columnFrom (p .settings) (p .place) (suc (length before)) l) ∷ [])
+  unfolding columnFrom
+  decided-tab b before [] e = w .passes _ 5 (omega arith) tt
+  decided-tab b before (n ∷ l) e =
+      pick-elim (λ (x : Stop). P (ht b) (tabEvent (ht b) x ∷ [])) (holds (tabNeeds (p .settings) (p .place) n))
+      (λ t. w .does _ _ (λ k m z. cc) (rw (number before n l _ e) (holds-fact (tabNeeds (p .settings) (p .place) n) t)))
+      (λ _. rw (longer before n) at (decided-tab b (before ++ (n ∷ [])) l (append-snoc before n l ∙ e)))
+
+  decided-stop : (b : ℕ) (before l : List ℕ) → before ++ l ≡ linesOf (p .stops .lines)
+      → P (vt b) (verticalEvents p (vt b) (lineFrom (downOf (p .place)) (suc (length before)) l))
   unfolding lineFrom
-  legal-stop before [] e = legal-as Control.FormFeed 0 [] (tt, tt)
-  legal-stop before (n ∷ l) e =
-      pick-elim (λ (x : Stop). LegalAll p (verticalEvents p vt x)) (ltb (downOf (p .place)) n)
-      (λ _. pick-elim (LegalAll p) (ltb n (edgeOf (p .settings)))
-      (λ t. (record { bytes = h; range = tt; needs = rw (number before n l _ e) (ltb-true _ _ t, tt); given = tt }, tt))
-      (λ _. legal-as Control.FormFeed 0 [] (tt, tt)))
-      (λ _. rw (longer before n) at (legal-stop (before ++ (n ∷ [])) l (append-snoc before n l ∙ e)))
+  decided-stop b before [] e = w .performs b Control.FormFeed 0 tt
+  decided-stop b before (n ∷ l) e =
+      pick-elim (λ (x : Stop). P (vt b) (verticalEvents p (vt b) x)) (ltb (downOf (p .place)) n)
+      (λ _. pick-elim (P (vt b)) (ltb n (edgeOf (p .settings)))
+      (λ t. w .does _ _ (λ k m z. cc) (rw (number before n l _ e) (ltb-true _ _ t, tt)))
+      (λ _. w .performs b Control.FormFeed 0 tt))
+      (λ _. rw (longer before n) at (decided-stop b (before ++ (n ∷ [])) l (append-snoc before n l ∙ e)))
 
-  legal-vertical : LegalAll p (vertical p vt)
+  decided-vertical : (b : ℕ) → P (vt b) (vertical p (vt b))
   unfolding vertical
-  legal-vertical =
-      pick-elim (LegalAll p) (p .stops .lineset)
-      (λ _. pick-elim (LegalAll p) (eqb (p .stops .lines .count) 0)
-      (λ _. legal-as Control.CarriageReturn 0 (feedAfterReturn (perform (perform p (done vt 0)) (inside Control.CarriageReturn 0)))
-      (tt, legal-feed (perform (perform p (done vt 0)) (inside Control.CarriageReturn 0))))
-      (λ _. legal-stop [] (linesOf (p .stops .lines)) refl))
-      (λ _. legal-as Control.LineFeed (pagesOfLine p) [] (line-needs (perform p (done vt 0)), tt))
+  decided-vertical b =
+      pick-elim (P (vt b)) (p .stops .lineset)
+      (λ _. pick-elim (P (vt b)) (eqb (p .stops .lines .count) 0) (λ _. w .performsReturn b) (λ _. decided-stop b [] (linesOf (p .stops .lines)) refl))
+      (λ _. w .performs b Control.LineFeed (pagesOfLine p) (line-needs (perform p (done (vt b) 0))))
 
-legal-control : (p : Printer) (c : Control) (b : ℕ) → Bytes (b ∷ []) → LegalAll p (controlEvents p c b)
-legal-control p Control.CarriageReturn b h = (record { bytes = h; range = tt; needs = tt; given = tt }, legal-feed _)
-legal-control p Control.LineFeed b h = (record { bytes = h; range = tt; needs = line-needs p; given = tt }, tt)
-legal-control p Control.FormFeed b h = (record { bytes = h; range = tt; needs = tt; given = tt }, tt)
-legal-control p Control.HorizontalTab b h = (legal-tab p b [] (columnsOf (p .stops .columns)) h refl, tt)
-legal-control p Control.VerticalTab b h = legal-vertical p b h
-legal-control p Control.Backspace b h = (legal-attempt p _ 3 (omega arith) h tt tt (λ _. tt), tt)
-legal-control p Control.ShiftOut b h = (record { bytes = h; range = tt; needs = tt; given = tt }, tt)
-legal-control p Control.ShiftIn b h = (legal-attempt p _ 2 (omega arith) h tt tt (λ _. tt), tt)
-legal-control p Control.Dc2 b h = (record { bytes = h; range = tt; needs = tt; given = tt }, tt)
-legal-control p Control.Dc4 b h = (record { bytes = h; range = tt; needs = tt; given = tt }, tt)
+  decided-control : (c : Control) (b : ℕ) → P (Command.Control c b) (controlEvents p c b)
+  decided-control Control.CarriageReturn b = w .returns b
+  decided-control Control.LineFeed b = w .does _ _ (λ k n z. cc) (line-needs p)
+  decided-control Control.FormFeed b = w .does _ 0 (λ k n z. cc) tt
+  decided-control Control.HorizontalTab b = decided-tab b [] (columnsOf (p .stops .columns)) refl
+  decided-control Control.VerticalTab b = decided-vertical b
+  decided-control Control.Backspace b = tried _ 3 (omega arith) (λ k n z. cc) (λ _. tt)
+  decided-control Control.ShiftOut b = w .does _ 0 (λ k n z. cc) tt
+  decided-control Control.ShiftIn b = tried _ 2 (omega arith) (λ k n z. cc) (λ _. tt)
+  decided-control Control.Dc2 b = w .does _ 0 (λ k n z. cc) tt
+  decided-control Control.Dc4 b = w .does _ 0 (λ k n z. cc) tt
 
--- range before geometry
-legal-ranged : (p : Printer) (fits : Bool) (c : Command) → Bytes (spelt c) → (fits ≡ true → InRange c)
-    → Given (p .settings) (p .stops) c → Unfit p c → LegalAll p (ranged fits c (attempt p c 3) ∷ [])
-unfolding ranged
-legal-ranged p fits c h r g u =
-    (pick-elim (Legal p) fits (λ e. legal-attempt p c 3 (omega arith) h (r e) g (λ _. u)) (λ _. record { bytes = h; known = omega arith; unfit = u }), tt)
+  pub decided : (c : Command) → P c (decide p c)
+  decided (Command.Letter b) = decided-letter b
+  decided (Command.Control c b) = decided-control c b
+  decided (Command.Escape b) = w .does _ 0 (λ k n z. cc) tt
+  decided (Command.Unlisted b) = w .passes _ 1 (omega arith) tt
+  decided (Command.UnlistedEscape b) = w .passes _ 1 (omega arith) tt
+  decided Command.Reset = w .does _ 0 (λ k n z. cc) tt
+  decided (Command.Mode c) = tried _ 2 (omega arith) (λ k n z. cc) (λ _. tt)
+  decided (Command.Parameter c n) = tried-in-range (inRange c n) _ (λ e k m z. cc) tt
+  decided (Command.Feed n) = w .does _ _ (λ k m z. cc) (omega arith)
+  decided (Command.LeftMargin n) = tried _ 3 (omega arith) (λ k m z. cc) (λ _. tt)
+  decided (Command.RightMargin n) = tried _ 3 (omega arith) (λ k m z. cc) (λ _. tt)
+  decided (Command.PageLines n) = tried-in-range (within 1 127 n) _ (λ e k m z. cc) tt
+  decided (Command.PageInches n) = tried-in-range (within 1 22 n) _ (λ e k m z. cc) tt
+  decided (Command.Absolute a b) = tried _ 3 (omega arith) (λ k n z. cc) (λ _. tt)
+  decided (Command.Relative a b) = tried _ 3 (omega arith) (λ k n z. cc) (λ _. tt)
+  decided (Command.OpenImage d a b) = w .does _ 0 (λ k n z. cc) tt
+  decided (Command.ImageByte d b) = tried _ 4 (omega arith) (λ k n z. cc) (λ e. over _ _ e)
+  decided (Command.OpenList k) = w .does _ 0 (λ k n z. cc) tt
+  decided (Command.ListByte k b) = tried _ 3 (omega arith) (λ k n z. cc) (λ _. tt)
+  decided (Command.EndList k b) = w .does _ 0 (λ k n z. cc) tt
+
+-- What is decided is legal
+
+-- an LF goes to the left margin
+fed-left : (s : Settings) (x : Place) (n : ℕ) → acrossOf (lineFed s x n) ≡ leftOf s
+fed-left s x zero = refl
+fed-left s x (suc n) = refl
+
+legal-feed : (p : Printer) → LegalAll p (feedAfterReturn p)
+unfolding feedAfterReturn
+legal-feed p = pick-elim (LegalAll p) (p .settings .setup .autofeed) (λ _. (line-needs p, tt)) (λ _. tt)
+
+legal-letter : (p : Printer) (b : ℕ) → Bytes (b ∷ []) → acrossOf (p .place) ≡ leftOf (p .settings) → Legal p (attempt p (Command.Letter b) 4)
+legal-letter p b h l =
+    attempted (Legal p) p _ 4 (λ n. record { bytes = h; range = λ k m z. cc; needs = n; given = tt })
+    (λ e. record { bytes = h; known = omega arith; unfit = (l, over _ _ e) })
 
 pub legal-decide : (p : Printer) (c : Command) → Bytes (spelt c) → Given (p .settings) (p .stops) c → LegalAll p (decide p c)
-legal-decide p (Command.Letter b) h g = legal-letter p b h
-legal-decide p (Command.Control c b) h g = legal-control p c b h
-legal-decide p (Command.Escape b) h g = (record { bytes = h; range = tt; needs = tt; given = tt }, tt)
-legal-decide p (Command.Unlisted b) h g = (record { bytes = h; known = omega arith; unfit = tt }, tt)
-legal-decide p (Command.UnlistedEscape b) h g = (record { bytes = h; known = omega arith; unfit = tt }, tt)
-legal-decide p Command.Reset h g = (record { bytes = h; range = tt; needs = tt; given = tt }, tt)
-legal-decide p (Command.Mode c) h g = (legal-attempt p _ 2 (omega arith) h tt tt (λ _. tt), tt)
-legal-decide p (Command.Parameter c n) h g = legal-ranged p (inRange c n) (Command.Parameter c n) h (λ e. e) tt tt
-legal-decide p (Command.Feed n) h g = (record { bytes = h; range = tt; needs = omega arith; given = tt }, tt)
-legal-decide p (Command.LeftMargin n) h g = (legal-attempt p _ 3 (omega arith) h tt tt (λ _. tt), tt)
-legal-decide p (Command.RightMargin n) h g = (legal-attempt p _ 3 (omega arith) h tt tt (λ _. tt), tt)
-legal-decide p (Command.PageLines n) h g = legal-ranged p (within 1 127 n) (Command.PageLines n) h (λ _. tt) tt tt
-legal-decide p (Command.PageInches n) h g = legal-ranged p (within 1 22 n) (Command.PageInches n) h (λ _. tt) tt tt
-legal-decide p (Command.Absolute a b) h g = (legal-attempt p _ 3 (omega arith) h tt tt (λ _. tt), tt)
-legal-decide p (Command.Relative a b) h g = (legal-attempt p _ 3 (omega arith) h tt tt (λ _. tt), tt)
-legal-decide p (Command.OpenImage d a b) h g = (record { bytes = h; range = tt; needs = tt; given = tt }, tt)
-legal-decide p (Command.ImageByte d b) h g = (legal-attempt p _ 4 (omega arith) h tt tt (λ e. over _ _ e), tt)
-legal-decide p (Command.OpenList k) h g = (record { bytes = h; range = tt; needs = tt; given = tt }, tt)
-legal-decide p (Command.ListByte k b) h g = (legal-attempt p (Command.ListByte k b) 3 (omega arith) h tt g (λ _. tt), tt)
-legal-decide p (Command.EndList k b) h g = (record { bytes = h; range = tt; needs = tt; given = g }, tt)
+legal-decide p =
+    decided p (λ (c : Command) (l : List Event). Bytes (spelt c) → Given (p .settings) (p .stops) c → LegalAll p l)
+    (record {
+      does = λ c told r n h g. (record { bytes = h; range = r; needs = n; given = g }, tt);
+      passes = λ c reason k u h g. (record { bytes = h; known = k; unfit = u }, tt);
+      wraps = λ b a h g. (a, (legal-letter _ b h (fed-left (p .settings) (p .place) (pagesOfLine p)), tt));
+      returns = λ b h g. (record { bytes = h; range = λ k n z. cc; needs = tt; given = tt }, legal-feed _);
+      performsReturn = λ b h g. (record { bytes = h; range = λ k n z. cc; needs = tt; given = tt }, (tt, legal-feed _));
+      performs = λ b x told k h g. (record { bytes = h; range = λ k n z. cc; needs = tt; given = tt }, (k, tt));
+    })

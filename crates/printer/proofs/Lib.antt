@@ -1,9 +1,9 @@
 pub mod CodeLaws
 pub mod Choices
 pub mod Accepting
-pub mod Spelling
 pub mod StopLists
 pub mod Legal
+pub mod Spelling
 pub mod Keeping
 pub mod KeepingSteps
 pub mod Bytes

@@ -5,17 +5,15 @@ use mathlib.Core.Bool.{Bool, true, false}
 use mathlib.Core.List.{List, [], _∷_, _++_, map, append-assoc, append-nil}
 use mathlib.Core.Logic.{_⊎_, inl, inr}
 use native.Mathlib.Omega.{arith}
-use lib.Dec.{leb, eqb, ltb}
+use lib.Dec.{leb, eqb}
 use borrow.Author.Tests.{eqb-true, leb-false, leb-true}
-use Rattle.printer.specs.Tools.{among, either, pick, both, within, lookup, holds, Each}
+use Rattle.printer.specs.Tools.{among, either, pick, both, within, lookup, Each}
 use Rattle.printer.specs.Codes.{controlCode, oneCode, twoCode}
 use Rattle.printer.specs.Framing.{isLetter, readAs, firsts, seconds, firstOf, secondOf, oneCommand, twoCommand, afterTwo, imageWait, firstFrame, secondFrame, frame}
 use Rattle.printer.specs.Performing.{Event, done, passed, inside, automatic}
-use Rattle.printer.specs.Deciding.{attempt, ranged, letterEvents, feedAfterReturn, columnFrom, tabEvent, lineFrom, verticalEvents, vertical, controlEvents, inRange, decide, pagesOfLine, needsAt}
-use Rattle.printer.specs.declared.stops.Stop.{Stop}
-use Rattle.printer.specs.Settings.{acrossOf, leftOf, edgeOf, downOf, columnsOf, linesOf}
+use Rattle.printer.specs.Deciding.{feedAfterReturn, pagesOfLine, decide}
 use Rattle.printer.specs.Steps.{frameAt, eventsIn, nextIn, stepEvents, stepOf, stateAfter, eventsOver}
-use Rattle.printer.specs.Spelling.{listedControls, listedEscapes, spelt, pending, StandsFor, Genuine, speltBy, speltAll, GenuineEvent}
+use Rattle.printer.specs.Spelling.{listedControls, listedEscapes, spelt, pending, StandsFor, Genuine, speltAll, GenuineEvent}
 use Rattle.printer.specs.declared.commands.Command.{Command}
 use Rattle.printer.specs.declared.commands.Control.{Control}
 use Rattle.printer.specs.declared.commands.Density.{Density}
@@ -27,6 +25,7 @@ use Rattle.printer.specs.declared.commands.Two.{Two}
 use Rattle.printer.specs.declared.commands.Waiting.{Waiting}
 use Rattle.printer.specs.declared.state.Printer.{Printer}
 use Rattle.printer.proofs.Choices.{pick-elim, both-right, either-elim, either-left, either-right, within-fact, each-append, each-map}
+use Rattle.printer.proofs.Legal.{attempted, decided}
 
 heads : {B : Type 0} {x y : B} {xs ys : List B} → x ∷ xs ≡ y ∷ ys → x ≡ y
 heads h = cc
@@ -231,43 +230,10 @@ pub record OfCommand (c : Command) (l : List Event) : Type 0 where
   pub spells : speltAll l ≡ spelt c
   pub own : Each (EventOf c) l
 
-of-done : (c : Command) (told : ℕ) → OfCommand c (done c told ∷ [])
-unfolding speltAll
-of-done c told = record { spells = append-nil (spelt c); own = (refl, tt) }
-
-of-passed : (c : Command) (reason : ℕ) → OfCommand c (passed c reason ∷ [])
-unfolding speltAll
-of-passed c reason = record { spells = append-nil (spelt c); own = (refl, tt) }
-
-of-attempt : (p : Printer) (c : Command) (reason : ℕ) → OfCommand c (attempt p c reason ∷ [])
-unfolding attempt
-of-attempt p c reason =
-    pick-elim (λ (e : Event). OfCommand c (e ∷ [])) (holds (needsAt p c 0)) (λ _. of-done c 0) (λ _. of-passed c reason)
-
-of-ranged : (fits : Bool) (c : Command) (e : Event) → OfCommand c (e ∷ []) → OfCommand c (ranged fits c e ∷ [])
-unfolding ranged
-of-ranged fits c e h = pick-elim (λ (x : Event). OfCommand c (x ∷ [])) fits (λ _. h) (λ _. of-passed c 2)
-
 -- what is performed inside a command
 record Silent (c : Command) (l : List Event) : Type 0 where
   spells : speltAll l ≡ []
   own : Each (EventOf c) l
-
--- an event inside the command, before or after
-of-before : (c : Command) (e : Event) (l : List Event) → speltBy e ≡ [] → EventOf c e → OfCommand c l → OfCommand c (e ∷ l)
-unfolding speltAll
-of-before c e l h g o = record { spells = rw h (o .spells); own = (g, o .own) }
-
-of-after : (c : Command) (e : Event) (l : List Event) → OfCommand c (e ∷ []) → Silent c l → OfCommand c (e ∷ l)
-unfolding speltAll
-of-after c e l o h = record { spells = rw (h .spells) (o .spells); own = (o .own .0, h .own) }
-
-of-letter : (p : Printer) (b : ℕ) → OfCommand (Command.Letter b) (letterEvents p b)
-unfolding letterEvents
-of-letter p b =
-    pick-elim (OfCommand (Command.Letter b)) (holds (needsAt p (Command.Letter b) 0)) (λ _. of-done _ 0)
-    (λ _. pick-elim (OfCommand (Command.Letter b)) (eqb (acrossOf (p .place)) (leftOf (p .settings))) (λ _. of-passed _ 4)
-    (λ _. of-before _ _ _ refl tt (of-attempt _ _ 4)))
 
 silent-feed : (c : Command) (p : Printer) → Silent c (feedAfterReturn p)
 unfolding feedAfterReturn speltAll
@@ -275,66 +241,24 @@ silent-feed c p =
     pick-elim (Silent c) (p .settings .setup .autofeed) (λ _. record { spells = refl; own = (tt, tt) })
     (λ _. record { spells = refl; own = tt })
 
-of-tab : (c : Command) (x : Stop) → OfCommand c (tabEvent c x ∷ [])
-of-tab c (Stop.Found k n) = of-done c k
-of-tab c Stop.Missing = of-passed c 5
-
-of-inside : (c : Command) (x : Control) (told : ℕ) (l : List Event) → Silent c l → OfCommand c (done c 0 ∷ inside x told ∷ l)
+of-done : (c : Command) (told : ℕ) (l : List Event) → Silent c l → OfCommand c (done c told ∷ l)
 unfolding speltAll
-of-inside c x told l h =
-    of-after c (done c 0) (inside x told ∷ l) (of-done c 0) (record { spells = h .spells; own = (tt, h .own) })
-
-nothing : (c : Command) → Silent c []
-unfolding speltAll
-nothing c = record { spells = refl; own = tt }
-
-of-stop : (p : Printer) (c : Command) (x : Stop) → OfCommand c (verticalEvents p c x)
-of-stop p c (Stop.Found k n) =
-    pick-elim (OfCommand c) (ltb n (edgeOf (p .settings))) (λ _. of-done c k) (λ _. of-inside c Control.FormFeed 0 [] (nothing c))
-of-stop p c Stop.Missing = of-inside c Control.FormFeed 0 [] (nothing c)
-
-of-vertical : (p : Printer) (c : Command) → OfCommand c (vertical p c)
-unfolding vertical
-of-vertical p c =
-    pick-elim (OfCommand c) (p .stops .lineset)
-    (λ _. pick-elim (OfCommand c) (eqb (p .stops .lines .count) 0)
-    (λ _. of-inside c Control.CarriageReturn 0 _ (silent-feed c _))
-    (λ _. of-stop p c (lineFrom (downOf (p .place)) 1 (linesOf (p .stops .lines)))))
-    (λ _. of-inside c Control.LineFeed (pagesOfLine p) [] (nothing c))
-
-of-control : (p : Printer) (c : Control) (b : ℕ) → OfCommand (Command.Control c b) (controlEvents p c b)
-of-control p Control.CarriageReturn b = of-after _ _ _ (of-done _ 0) (silent-feed _ _)
-of-control p Control.LineFeed b = of-done _ _
-of-control p Control.FormFeed b = of-done _ _
-of-control p Control.HorizontalTab b = of-tab _ (columnFrom (p .settings) (p .place) 1 (columnsOf (p .stops .columns)))
-of-control p Control.VerticalTab b = of-vertical p _
-of-control p Control.Backspace b = of-attempt p _ 3
-of-control p Control.ShiftOut b = of-done _ _
-of-control p Control.ShiftIn b = of-attempt p _ 2
-of-control p Control.Dc2 b = of-done _ _
-of-control p Control.Dc4 b = of-done _ _
+of-done c told l h = record { spells = rw (h .spells) (append-nil (spelt c)); own = (refl, h .own) }
 
 pub of-decide : (p : Printer) (c : Command) → OfCommand c (decide p c)
-of-decide p (Command.Letter b) = of-letter p b
-of-decide p (Command.Control c b) = of-control p c b
-of-decide p (Command.Escape b) = of-done _ 0
-of-decide p (Command.Unlisted b) = of-passed _ 1
-of-decide p (Command.UnlistedEscape b) = of-passed _ 1
-of-decide p Command.Reset = of-done _ 0
-of-decide p (Command.Mode c) = of-attempt p _ 2
-of-decide p (Command.Parameter c n) = of-ranged (inRange c n) _ _ (of-attempt p _ 3)
-of-decide p (Command.Feed n) = of-done _ _
-of-decide p (Command.LeftMargin n) = of-attempt p _ 3
-of-decide p (Command.RightMargin n) = of-attempt p _ 3
-of-decide p (Command.PageLines n) = of-ranged (within 1 127 n) _ _ (of-attempt p _ 3)
-of-decide p (Command.PageInches n) = of-ranged (within 1 22 n) _ _ (of-attempt p _ 3)
-of-decide p (Command.Absolute a b) = of-attempt p _ 3
-of-decide p (Command.Relative a b) = of-attempt p _ 3
-of-decide p (Command.OpenImage d a b) = of-done _ 0
-of-decide p (Command.ImageByte d b) = of-attempt p _ 4
-of-decide p (Command.OpenList k) = of-done _ 0
-of-decide p (Command.ListByte k b) = of-attempt p _ 3
-of-decide p (Command.EndList k b) = of-done _ 0
+unfolding speltAll
+of-decide p =
+    decided p OfCommand
+    (record {
+      does = λ c told r n. of-done c told [] (record { spells = refl; own = tt });
+      passes = λ c reason k u. record { spells = append-nil (spelt c); own = (refl, tt) };
+      wraps = λ b h.
+          attempted (λ (e : Event). OfCommand (Command.Letter b) (automatic (pagesOfLine p) ∷ e ∷ [])) _ _ 4
+          (λ _. record { spells = refl; own = (tt, (refl, tt)) }) (λ _. record { spells = refl; own = (tt, (refl, tt)) });
+      returns = λ b. of-done _ 0 _ (silent-feed _ _);
+      performsReturn = λ b. let f = silent-feed _ _ in of-done _ 0 _ (record { spells = f .spells; own = (tt, f .own) });
+      performs = λ b x told h. of-done _ 0 _ (record { spells = refl; own = (tt, tt) });
+    })
 
 -- Steps
 

@@ -7,29 +7,92 @@ use native.Mathlib.Omega.{arith}
 use native.Mathlib.Nat.{div-add-mod', mul-le-mul-left}
 use lib.Dec.{leb, eqb}
 use borrow.Author.Tests.{leb-true, eqb-true}
-use Rattle.printer.specs.Tools.{pick, Holds, Bytes, Each}
+use Rattle.printer.specs.Tools.{pick, Bytes, Each}
 use Rattle.printer.specs.Widths.{base, doubleWidth, advance, imageStep}
 use Rattle.printer.specs.Records.{styleOf, letterRecord, imageRecord, feedRecord, clearRecord, passedRecord, newTop, FitsBytes}
 use Rattle.printer.specs.Codes.{codeOf}
 use Rattle.printer.specs.Units.{columnDots, rowDots}
 use Rattle.printer.specs.Settings.{edgeOf, acrossOf, downOf}
-use Rattle.printer.specs.Performing.{Event, done, passed, inside, automatic, controlPlace, controlRecords, recordsOf, recordsAll, perform}
-use Rattle.printer.specs.Deciding.{countries, controlNeeds}
+use Rattle.printer.specs.Performing.{Event, done, passed, inside, automatic, controlPlace, placeAfter, fedTo, recordsOf, recordsAll, perform}
+use Rattle.printer.specs.Deciding.{countries}
 use Rattle.printer.specs.Steps.{frameAt, eventsIn, stepEvents, stepRecords, stepOf, recordsOver}
+use Rattle.printer.specs.Reckoning.{Prints, letter, imageByte, neither, printing}
 use Rattle.printer.specs.declared.commands.Command.{Command}
 use Rattle.printer.specs.declared.commands.Control.{Control}
 use Rattle.printer.specs.declared.commands.Density.{Density}
+use Rattle.printer.specs.declared.records.Record.{Record}
 use Rattle.printer.specs.declared.settings.Pitch.{Pitch}
 use Rattle.printer.specs.declared.settings.Settings.{Settings}
 use Rattle.printer.specs.declared.settings.Width.{Width}
 use Rattle.printer.specs.declared.state.Place.{Place}
 use Rattle.printer.specs.declared.state.Printer.{Printer}
-use Rattle.printer.specs.declared.stops.Stops.{Stops}
 use Rattle.printer.specs.declared.units.Resolution.{Resolution}
 use Rattle.printer.proofs.Choices.{either-elim, each-append}
 use Rattle.printer.proofs.Legal.{Done, Legal, LegalAll}
-use Rattle.printer.proofs.Keeping.{Fine, Kept, keep, keep-place, keep-control}
+use Rattle.printer.proofs.Keeping.{Fine, Kept, keep, keep-control}
 use Rattle.printer.proofs.KeepingSteps.{Ours, kept, sound, step-ours}
+
+-- The records of a command
+
+-- the pages that ESC J turns are few
+pages-fit : (down n edge : ℕ) → down ≤ 79200 → n ≤ 255 → 3600 ≤ edge → (down + 20 * n) / edge ≤ 255
+pages-fit down n edge h k m =
+    omega (arith, div-add-mod' (down + 20 * n) edge, mul-le-mul-left ((down + 20 * n) / edge) m)
+
+-- a claim about the records of a control performed, from the claim about those that it may write
+pub control-writes : (p : Printer) (P : List Record → Type 0) (c : Control) (told : ℕ) → P []
+    → ((pages : ℕ) → (Legal p (inside c told) → pages ≤ 255) → P (fedTo (p .settings) (controlPlace (p .settings) (p .stops) (p .place) c told) pages))
+    → P (recordsOf p (inside c told))
+control-writes p P Control.CarriageReturn told n f = n
+control-writes p P Control.LineFeed zero n f = f 0 (λ h. omega arith)
+control-writes p P Control.LineFeed (suc m) n f = f (suc m) (λ h. omega arith)
+control-writes p P Control.FormFeed told n f = f 1 (λ h. omega arith)
+control-writes p P Control.HorizontalTab told n f = n
+control-writes p P Control.VerticalTab zero n f = n
+control-writes p P Control.VerticalTab (suc m) n f = f 0 (λ h. omega arith)
+control-writes p P Control.Backspace told n f = n
+control-writes p P Control.ShiftOut told n f = n
+control-writes p P Control.ShiftIn told n f = n
+control-writes p P Control.Dc2 told n f = n
+control-writes p P Control.Dc4 told n f = n
+
+-- a claim about a command done, what it prints and its records: for a letter, an image byte, and each other record that there is
+pub record Writes (p : Printer) (told : ℕ) (P : Command → Prints → List Record → Type 0) : Type 0 where
+  pub silent : (c : Command) → P c neither []
+  pub letters : (b : ℕ) → P (Command.Letter b) (letter b) (recordsOf p (done (Command.Letter b) told))
+  pub images : (d : Density) (b : ℕ) → P (Command.ImageByte d b) (imageByte d b) (recordsOf p (done (Command.ImageByte d b) told))
+  pub feeds : (c : Command) (pages : ℕ) → (Done p c told → Fine (p .settings) (p .place) → pages ≤ 255)
+      → P c neither (fedTo (p .settings) (placeAfter (p .settings) (p .stops) (p .place) c told) pages)
+  pub clears : (c : Command) → P c neither (clearRecord ∷ [])
+
+pub writes : (p : Printer) (told : ℕ) (P : Command → Prints → List Record → Type 0) → Writes p told P
+    → (c : Command) → P c (printing c) (recordsOf p (done c told))
+writes p told P w (Command.Letter b) = w .letters b
+writes p told P w (Command.Control c b) =
+    control-writes p (P (Command.Control c b) neither) c told (w .silent _) (λ pages k. w .feeds (Command.Control c b) pages (λ h f. k (h .needs)))
+writes p told P w (Command.Escape b) = w .silent _
+writes p told P w (Command.Unlisted b) = w .silent _
+writes p told P w (Command.UnlistedEscape b) = w .silent _
+writes p told P w Command.Reset = w .feeds Command.Reset newTop (λ h f. omega arith)
+writes p told P w (Command.Mode c) = w .silent _
+writes p told P w (Command.Parameter c n) = w .silent _
+writes p told P w (Command.Feed n) =
+    w .feeds (Command.Feed n) told
+    (λ h f. let q = pages-fit (downOf (p .place)) n (edgeOf (p .settings)) (omega arith) (h .bytes .1 .0) (omega arith) in
+    let m = h .needs in omega arith)
+writes p told P w (Command.LeftMargin n) = w .clears _
+writes p told P w (Command.RightMargin n) = w .clears _
+writes p told P w (Command.PageLines n) = w .feeds (Command.PageLines n) newTop (λ h f. omega arith)
+writes p told P w (Command.PageInches n) = w .feeds (Command.PageInches n) newTop (λ h f. omega arith)
+writes p told P w (Command.Absolute a b) = w .silent _
+writes p told P w (Command.Relative a b) = w .silent _
+writes p told P w (Command.OpenImage d a b) = w .silent _
+writes p told P w (Command.ImageByte d b) = w .images d b
+writes p told P w (Command.OpenList k) = w .silent _
+writes p told P w (Command.ListByte k b) = w .silent _
+writes p told P w (Command.EndList k b) = w .silent _
+
+-- Parts of records
 
 flag-le : (on : Bool) (n : ℕ) → pick on n 0 ≤ n
 flag-le true n = omega arith
@@ -121,33 +184,11 @@ feed-fits r down pages h k =
       advance = omega arith;
     }
 
-control-deep : (s : Settings) (t : Stops) (x : Place) (c : Control) (told : ℕ) → Holds (controlNeeds s t x c told) → Fine s x
-    → downOf (controlPlace s t x c told) ≤ 79200
-control-deep s t x c told h f = let k = keep-control s t x c told h f in omega arith
-
-control-fits : (s : Settings) (t : Stops) (x : Place) (c : Control) (told : ℕ) → Holds (controlNeeds s t x c told) → Fine s x
-    → Each FitsBytes (controlRecords s (controlPlace s t x c told) c told)
-control-fits s t x Control.CarriageReturn told h f = tt
-control-fits s t x Control.LineFeed zero h f =
-    (feed-fits (s .setup .resolution) _ 0 (control-deep s t x Control.LineFeed zero h f) (omega arith), tt)
-control-fits s t x Control.LineFeed (suc n) h f =
-    (feed-fits (s .setup .resolution) _ (suc n) (control-deep s t x Control.LineFeed (suc n) h f) (omega arith), tt)
-control-fits s t x Control.FormFeed told h f =
-    (feed-fits (s .setup .resolution) _ 1 (control-deep s t x Control.FormFeed told h f) (omega arith), tt)
-control-fits s t x Control.HorizontalTab told h f = tt
-control-fits s t x Control.VerticalTab zero h f = tt
-control-fits s t x Control.VerticalTab (suc n) h f =
-    (feed-fits (s .setup .resolution) _ 0 (control-deep s t x Control.VerticalTab (suc n) h f) (omega arith), tt)
-control-fits s t x Control.Backspace told h f = tt
-control-fits s t x Control.ShiftOut told h f = tt
-control-fits s t x Control.ShiftIn told h f = tt
-control-fits s t x Control.Dc2 told h f = tt
-control-fits s t x Control.Dc4 told h f = tt
-
--- the pages that ESC J turns are few
-pages-fit : (down n edge : ℕ) → down ≤ 79200 → n ≤ 255 → 3600 ≤ edge → (down + 20 * n) / edge ≤ 255
-pages-fit down n edge h k m =
-    omega (arith, div-add-mod' (down + 20 * n) edge, mul-le-mul-left ((down + 20 * n) / edge) m)
+control-fits : (p : Printer) (c : Control) (told : ℕ) → Legal p (inside c told) → Fine (p .settings) (p .place)
+    → Each FitsBytes (recordsOf p (inside c told))
+control-fits p c told h f =
+    let k = keep-control (p .settings) (p .stops) (p .place) c told h f in
+    control-writes p (Each FitsBytes) c told tt (λ pages m. (feed-fits (p .settings .setup .resolution) _ pages (omega arith) (m h), tt))
 
 clear-fits : FitsBytes clearRecord
 clear-fits = omega arith
@@ -155,38 +196,22 @@ clear-fits = omega arith
 passed-fits : (b reason : ℕ) → b ≤ 255 → reason ≤ 5 → FitsBytes (passedRecord b reason)
 passed-fits b reason h k = omega arith
 
-command-fits : (p : Printer) (c : Command) (told : ℕ) → Done p c told → Fine (p .settings) (p .place)
-    → Each FitsBytes (recordsOf p (done c told))
-command-fits p (Command.Letter b) told h f = (letter-fits (p .settings) (p .place) b (h .bytes .0) f, tt)
-command-fits p (Command.Control c b) told h f = control-fits (p .settings) (p .stops) (p .place) c told (h .needs) f
-command-fits p (Command.Escape b) told h f = tt
-command-fits p (Command.Unlisted b) told h f = tt
-command-fits p (Command.UnlistedEscape b) told h f = tt
-command-fits p Command.Reset told h f = (feed-fits (p .settings .setup .resolution) 0 newTop (omega arith) (omega arith), tt)
-command-fits p (Command.Mode c) told h f = tt
-command-fits p (Command.Parameter c n) told h f = tt
-command-fits p (Command.Feed n) told h f =
-    let k = keep-place p (Command.Feed n) told h f in
-    let q = pages-fit (downOf (p .place)) n (edgeOf (p .settings)) (omega arith) (h .bytes .1 .0) (omega arith) in
-    let m = h .needs in
-    (feed-fits (p .settings .setup .resolution) _ told (omega arith) (omega arith), tt)
-command-fits p (Command.LeftMargin n) told h f = (clear-fits, tt)
-command-fits p (Command.RightMargin n) told h f = (clear-fits, tt)
-command-fits p (Command.PageLines n) told h f = (feed-fits (p .settings .setup .resolution) 0 newTop (omega arith) (omega arith), tt)
-command-fits p (Command.PageInches n) told h f = (feed-fits (p .settings .setup .resolution) 0 newTop (omega arith) (omega arith), tt)
-command-fits p (Command.Absolute a b) told h f = tt
-command-fits p (Command.Relative a b) told h f = tt
-command-fits p (Command.OpenImage d a b) told h f = tt
-command-fits p (Command.ImageByte d b) told h f = (image-fits (p .settings) (p .place) b d (h .bytes .0) f, tt)
-command-fits p (Command.OpenList k) told h f = tt
-command-fits p (Command.ListByte k b) told h f = tt
-command-fits p (Command.EndList k b) told h f = tt
+command-fits : (p : Printer) (told : ℕ) (c : Command) → Done p c told → Kept p → Each FitsBytes (recordsOf p (done c told))
+command-fits p told =
+    writes p told (λ (c : Command) (x : Prints) (l : List Record). Done p c told → Kept p → Each FitsBytes l)
+    (record {
+      silent = λ c h k. tt;
+      letters = λ b h k. (letter-fits (p .settings) (p .place) b (h .bytes .0) (k .fine), tt);
+      images = λ d b h k. (image-fits (p .settings) (p .place) b d (h .bytes .0) (k .fine), tt);
+      feeds = λ c pages m h k. let q = keep p (done c told) h k .fine in (feed-fits (p .settings .setup .resolution) _ pages (omega arith) (m h (k .fine)), tt);
+      clears = λ c h k. (clear-fits, tt);
+    })
 
 pub event-fits : (p : Printer) (e : Event) → Legal p e → Kept p → Each FitsBytes (recordsOf p e)
-event-fits p (done c told) h k = command-fits p c told h (k .fine)
+event-fits p (done c told) h k = command-fits p told c h k
 event-fits p (passed c reason) h k = (passed-fits (codeOf c) reason (h .bytes .0) (h .known), tt)
-event-fits p (inside c told) h k = control-fits (p .settings) (p .stops) (p .place) c told h (k .fine)
-event-fits p (automatic told) h k = control-fits (p .settings) (p .stops) (p .place) Control.LineFeed told (h .0) (k .fine)
+event-fits p (inside c told) h k = control-fits p c told h (k .fine)
+event-fits p (automatic told) h k = control-fits p Control.LineFeed told (h .0) (k .fine)
 
 events-fit : (p : Printer) (l : List Event) → LegalAll p l → Kept p → Each FitsBytes (recordsAll p l)
 unfolding recordsAll

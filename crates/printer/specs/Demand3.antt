@@ -11,11 +11,10 @@ use Rattle.printer.specs.Steps.{stateAfter, eventsOver}
 use Rattle.printer.specs.Calls.{numberOf, startOf, readingOf, outputOf, StartPromise, ReadPromise, LentPromise}
 use Rattle.printer.specs.Widths.{advance}
 use Rattle.printer.specs.Performing.{done, passed, inside, automatic}
-use Rattle.printer.specs.Reckoning.{Reckoning, reckonNext, Occurrence, start, event, begun, Printed, printed, exact}
+use Rattle.printer.specs.Reckoning.{Reckoning, reckonNext, Occurrence, start, event, begun, Prints, letter, imageByte, neither, printing, Printed, printed, exact}
 use Rattle.printer.specs.declared.answers.Report.{Report}
 use Rattle.printer.specs.declared.answers.Reading.{Reading}
 use Rattle.printer.specs.declared.answers.Started.{Started}
-use Rattle.printer.specs.declared.commands.Command.{Command}
 use Rattle.printer.specs.declared.records.Mark.{Mark}
 use Rattle.printer.specs.declared.records.Record.{Record}
 use Rattle.printer.specs.declared.state.Printer.{Printer}
@@ -154,36 +153,19 @@ pub record Between (e : Printed) : Type 0 where
   pub fromTop : e .here .down .back ≤ e .here .down .set + e .here .down .forth
 
 -- a letter is passed over only at the left margin, where it does not fit; an image byte only where its column does not fit
-abbrev pub NoRoom : Reckoning → Command → Type 0
-NoRoom r (Command.Letter b) =
+abbrev pub NoRoom : Reckoning → Prints → Type 0
+NoRoom r (letter b) =
     (r .force .measures .left + r .across .back ≡ r .across .set + r .across .forth)
     × (r .force .measures .right + r .across .back < r .across .set + r .across .forth + advance (r .force .width))
-NoRoom r (Command.Control c b) = Unit
-NoRoom r (Command.Escape b) = Unit
-NoRoom r (Command.Unlisted b) = Unit
-NoRoom r (Command.UnlistedEscape b) = Unit
-NoRoom r Command.Reset = Unit
-NoRoom r (Command.Mode c) = Unit
-NoRoom r (Command.Parameter c n) = Unit
-NoRoom r (Command.Feed n) = Unit
-NoRoom r (Command.LeftMargin n) = Unit
-NoRoom r (Command.RightMargin n) = Unit
-NoRoom r (Command.PageLines n) = Unit
-NoRoom r (Command.PageInches n) = Unit
-NoRoom r (Command.Absolute a b) = Unit
-NoRoom r (Command.Relative a b) = Unit
-NoRoom r (Command.OpenImage d a b) = Unit
-NoRoom r (Command.ImageByte d b) =
+NoRoom r (imageByte d b) =
     r .force .measures .right + r .across .back < r .across .set + r .across .forth + r .force .step
-NoRoom r (Command.OpenList k) = Unit
-NoRoom r (Command.ListByte k b) = Unit
-NoRoom r (Command.EndList k b) = Unit
+NoRoom r neither = Unit
 
 -- and an automatic line comes only away from the left margin, where its letter does not fit
 abbrev pub RoomAt : Reckoning → Occurrence → Type 0
 RoomAt r (start resolution) = Unit
 RoomAt r (event (done c told)) = Unit
-RoomAt r (event (passed c reason)) = NoRoom r c
+RoomAt r (event (passed c reason)) = NoRoom r (printing c)
 RoomAt r (event (inside c told)) = Unit
 RoomAt r (event (automatic told)) =
     (r .force .measures .left + r .across .back < r .across .set + r .across .forth)

@@ -9,6 +9,7 @@ use Rattle.printer.specs.Widths.{advance, columnWidth}
 use Rattle.printer.specs.Performing.{Event, done, passed, inside, automatic}
 use Rattle.printer.specs.declared.commands.Command.{Command}
 use Rattle.printer.specs.declared.commands.Control.{Control}
+use Rattle.printer.specs.declared.commands.Density.{Density}
 use Rattle.printer.specs.declared.commands.Mode.{Mode}
 use Rattle.printer.specs.declared.commands.Parameter.{Parameter}
 use Rattle.printer.specs.declared.records.Mark.{Mark}
@@ -207,32 +208,43 @@ pub record Printed : Type 0 where
   pub advance : ℕ
   pub here : Reckoning
 
-abbrev pub printedBy : Reckoning → Command → List Printed
-printedBy r (Command.Letter b) =
+-- what a command prints
+pub data Prints : Type 0 where
+  letter : (byte : ℕ) → Prints
+  imageByte : Density → (byte : ℕ) → Prints
+  neither : Prints
+
+abbrev pub printing : Command → Prints
+printing (Command.Letter b) = letter b
+printing (Command.Control c b) = neither
+printing (Command.Escape b) = neither
+printing (Command.Unlisted b) = neither
+printing (Command.UnlistedEscape b) = neither
+printing Command.Reset = neither
+printing (Command.Mode c) = neither
+printing (Command.Parameter c n) = neither
+printing (Command.Feed n) = neither
+printing (Command.LeftMargin n) = neither
+printing (Command.RightMargin n) = neither
+printing (Command.PageLines n) = neither
+printing (Command.PageInches n) = neither
+printing (Command.Absolute a b) = neither
+printing (Command.Relative a b) = neither
+printing (Command.OpenImage d a b) = neither
+printing (Command.ImageByte d b) = imageByte d b
+printing (Command.OpenList k) = neither
+printing (Command.ListByte k b) = neither
+printing (Command.EndList k b) = neither
+
+abbrev pub printedBy : Reckoning → Prints → List Printed
+printedBy r (letter b) =
     record { mark = Mark.Tx; byte = b; advance = advance (r .force .width); here = r } ∷ []
-printedBy r (Command.Control c b) = []
-printedBy r (Command.Escape b) = []
-printedBy r (Command.Unlisted b) = []
-printedBy r (Command.UnlistedEscape b) = []
-printedBy r Command.Reset = []
-printedBy r (Command.Mode c) = []
-printedBy r (Command.Parameter c n) = []
-printedBy r (Command.Feed n) = []
-printedBy r (Command.LeftMargin n) = []
-printedBy r (Command.RightMargin n) = []
-printedBy r (Command.PageLines n) = []
-printedBy r (Command.PageInches n) = []
-printedBy r (Command.Absolute a b) = []
-printedBy r (Command.Relative a b) = []
-printedBy r (Command.OpenImage d a b) = []
-printedBy r (Command.ImageByte d b) =
+printedBy r (imageByte d b) =
     record { mark = Mark.Im; byte = b; advance = r .force .step; here = r } ∷ []
-printedBy r (Command.OpenList k) = []
-printedBy r (Command.ListByte k b) = []
-printedBy r (Command.EndList k b) = []
+printedBy r neither = []
 
 abbrev pub printedAt : Reckoning → Event → List Printed
-printedAt r (done c told) = printedBy r c
+printedAt r (done c told) = printedBy r (printing c)
 printedAt r (passed c reason) = []
 printedAt r (inside c told) = []
 printedAt r (automatic told) = []
