@@ -19,7 +19,7 @@ ghost use Rattle.printer.specs.Tools.{lookup};
 ghost use Rattle.printer.specs.Framing.{isLetter, readAs, firstOf, secondOf, seconds, oneCommand, twoCommand, imageWait, afterTwo, firstFrame, secondFrame, listFrame, frame};
 
 // Whether a byte prints: 20h to 7Eh, A0h to FFh, and 80h to 9Fh after ESC 6.
-fn is_letter(upper: bool, b: u8) -> bool
+pub fn is_letter(upper: bool, b: u8) -> bool
     ensures { λ r. ⌜ r ≡ isLetter upper b ⌝ }
 {
     ((0x20 <= b) & (b <= 0x7E)) | (0xA0 <= b) | (upper & (0x80 <= b) & (b <= 0x9F))

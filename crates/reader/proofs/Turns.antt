@@ -1,31 +1,30 @@
 -- The loop of a call: what is left to do, after what is done, is the whole.
-use Prim.Native.Nat.{ℕ, zero, suc, _+_, _*_, _-_, _≤_, _<_}
-use mathlib.Core.Path.{_≡_, refl, _∙_}
+use Prim.Native.Nat.{ℕ, zero, suc, _+_, _*_, _-_, _≤_, _<_, min}
+use mathlib.Core.Path.{_≡_, refl, sym, ap, _∙_}
 use mathlib.Core.List.{List, [], _∷_, _++_, append-assoc, append-nil}
-use native.Mathlib.Nat.{zero-add, add-zero, sub-zero, sub-add-eq}
+use native.Mathlib.Nat.{zero-add, add-zero, add-assoc, sub-zero, sub-add-eq}
 use native.Mathlib.Numerals.{add-one}
 use native.Mathlib.Omega.{arith}
-use lib.Dec.{ltb}
-use lib.ListN.{length, drop, getD, drop-of-length-le}
-use lib.Seq.{drop-cons}
-use borrow.Author.Tests.{lt-ltb, le-ltb}
-use Rattle.printer.specs.Tools.{pick}
+use lib.ListN.{length, take, drop, getD, length-take, length-drop, drop-of-length-le, take-append-drop}
+use lib.Seq.{drop-cons, drop-drop, take-take, length-take-le}
+use borrow.Author.Tests.{lt-ltb}
+use borrow.Rule.Slice.PartMut.{midOf, putMid}
+use Rattle.printer.specs.Tools.{Bytes}
 use Rattle.printer.specs.Records.{recordSize, roomForByte}
-use Rattle.printer.specs.Steps.{stepOf, stepRecords}
-use Rattle.printer.specs.Calls.{Run, stopped, afterByte, runOf, callOf, ReadPromise}
+use Rattle.printer.specs.Steps.{stateAfter, recordsOver}
+use Rattle.printer.specs.Calls.{Run, stopped, runOf, callOf, ReadPromise}
 use Rattle.printer.specs.declared.answers.Answer.{Answer}
 use Rattle.printer.specs.declared.records.Record.{Record}
 use Rattle.printer.specs.declared.state.Printer.{Printer}
+use Rattle.printer.proofs.Choices.{bytes-take, bytes-rest}
 use Rattle.printer.proofs.Accepting.{fact-accepted}
-use Rattle.printer.proofs.Few.{two-records}
-use Rattle.printer.proofs.KeepingSteps.{Ours, step-ours}
-use Rattle.reader.specs.Parts.{Written, reading}
-use Rattle.reader.proofs.Writes.{none, more, same-length}
-
--- so many bytes read, with their records, before a run
-abbrev after : ℕ → List Record → Run → Run
-after n l v =
-    record { answer = v .answer; printer = v .printer; read = n + v .read; records = l ++ v .records }
+use Rattle.printer.proofs.KeepingSteps.{Ours, steps-ours}
+use Rattle.steps.specs.Output.{Written}
+use Rattle.steps.specs.Parts.{Roomy, PartPromise}
+use Rattle.steps.specs.declared.Part.{Part}
+use Rattle.steps.proofs.Writes.{none, more, lent, same-length}
+use Rattle.steps.proofs.Runs.{after, reads, part-fits, run-part}
+use Rattle.reader.specs.Parts.{reading}
 
 -- the invariant: of a call's input, allowance, output and state, and of the output and the state now, the bytes read, the
 -- allowance left and the bytes written
@@ -53,19 +52,8 @@ begins input allowance out p o =
       whole = rw (fact-accepted p (o .accepted)) (simp (zero-add, sub-zero));
     }
 
--- a byte more
-after-byte : (n : ℕ) (l k : List Record) (v : Run) → after n l (afterByte k v) ≡ after (n + 1) (l ++ k) v
-after-byte n l k v = let e : n + suc (v .read) ≡ n + 1 + v .read = omega arith in rw (e, append-assoc)
-
--- with some allowance, a byte is read or there is no room for its records
-reads : (p : Printer) (b : ℕ) (l : List ℕ) (allowance room : ℕ) → (allowance ≡ 0 → ⊥)
-    → runOf p (b ∷ l) allowance room
-    ≡ pick (ltb room roomForByte) (stopped Answer.OutputFull p)
-    (afterByte (stepRecords p b)
-    (runOf (stepOf p b) l (allowance - 1) (room - recordSize * length (stepRecords p b))))
-unfolding runOf
-reads p b l zero room h = absurd (h refl)
-reads p b l (suc n) room h = let e : suc n - 1 ≡ n = omega arith in rw e
+after-part : (n m : ℕ) (l k : List Record) (v : Run) → after n l (after m k v) ≡ after (n + m) (l ++ k) v
+after-part n m l k v = rw (add-assoc, append-assoc)
 
 module _
     {input : List ℕ} {allowance : ℕ} {out₀ : List ℕ} {p₀ : Printer} {out : List ℕ} {p : Printer} {at left written : ℕ}
@@ -108,22 +96,64 @@ module _
           let k : Room < roomForByte = omega (arith, long) in
           ends Answer.OutputFull (rw (next, reads p Byte _ left Room some-allowance, lt-ltb Room roomForByte k))
 
-      -- a turn more, after a step that gave q and l
-      pub goes-on : {q : Printer} {l : List Record} {end : ℕ} {out′ : List ℕ}
-          → roomForByte ≤ length out - written → Byte ≤ 255
-          → (q ≡ stepOf p Byte) × (l ≡ stepRecords p Byte) → Written out written l end out′
-          → Going input allowance out₀ p₀ out′ q (at + 1) (left - 1) end
-      goes-on {q} {l} {end} h m s v =
-          let k : roomForByte ≤ Room = omega (arith, long) in
-          let two : length l ≤ 2 = rw (s .1) (two-records p Byte) in
-          record {
-            records = g .records ++ l;
-            ours = rw (s .0) (step-ours p Byte m (g .ours));
-            within = omega arith;
-            fits = omega (arith, v .place, long);
-            wrote = more (g .wrote) (g .fits) v;
-            whole =
-                g .whole
-                ∙ rw (next, reads p Byte _ left Room some-allowance, le-ltb Room roomForByte k)
-                (rw (← (s .0), ← (s .1), v .place, sub-add-eq) (after-byte at (g .records) l _));
-          }
+  -- a turn more, after a part of so much input as the allowance covers
+  module _ {m : ℕ} (e : m ≡ min left (length input - at)) {back : Part} {zs : List ℕ}
+      (v : PartPromise p (take (at + m - at) (drop at input)) (midOf written (length out - written) out) back zs) where
+    abbrev Read : List ℕ
+    Read = take (back .read) (drop at input)
+
+    limits : back .read ≤ min (at + m - at) (length input - at)
+    limits = simp (length-take, length-drop) at (v .within)
+
+    pub within-allowance : back .read ≤ left
+    within-allowance = omega (arith, limits)
+
+    pub within-input : at + back .read ≤ length input
+    within-input = omega (arith, limits, g .within)
+
+    same-part : take (back .read) (take (at + m - at) (drop at input)) ≡ Read
+    same-part = take-take (back .read) (at + m - at) (drop at input) (omega (arith, limits))
+
+    room-of-part : length (midOf written (length out - written) out) ≡ Room
+    room-of-part = simp (length-take, length-drop) (omega (arith, long))
+
+    roomy : Roomy p Read Room
+    roomy = rw (← same-part, ← room-of-part) (v .roomy)
+
+    -- the run, after the part
+    rest : runOf p (drop at input) left Room
+        ≡ after (back .read) (recordsOver p Read)
+        (runOf (stateAfter p Read) (drop (at + back .read) input) (left - back .read) (Room - recordSize * length (recordsOver p Read)))
+    rest =
+        let n : length Read ≡ back .read = length-take-le (back .read) (drop at input) (simp length-drop (omega (arith, limits))) in
+        ap (λ (l : List ℕ). runOf p l left Room) (sym (rw drop-drop at (take-append-drop (back .read) (drop at input))))
+        ∙ rw n at (run-part p Read (drop (at + back .read) input) left Room (omega (arith, n, within-allowance)) roomy)
+
+    wrote-part : Written out written (recordsOver p Read) (written + back .written) (putMid written (length out - written) out zs)
+    wrote-part = lent (omega (arith, g .fits, long)) (rw same-part at (v .wrote))
+
+    pub within-output : written + back .written ≤ length out₀
+    within-output = omega (arith, wrote-part .place, g .fits, part-fits p Read Room roomy)
+
+    pub goes-on : Bytes input
+        → Going input allowance out₀ p₀ (putMid written (length out - written) out zs) (back .printer)
+        (at + back .read) (left - back .read) (written + back .written)
+    goes-on b =
+        let bytes : Bytes Read = bytes-take (back .read) _ (bytes-rest (take at input) (drop at input) (rw take-append-drop b)) in
+        let r : Room - recordSize * length (recordsOver p Read) ≡ length out₀ - (written + back .written) = omega (arith, wrote-part .place) in
+        record {
+          records = g .records ++ recordsOver p Read;
+          ours = rw (v .printer, same-part) (steps-ours p Read bytes (g .ours));
+          within = within-input;
+          fits = within-output;
+          wrote = more (g .wrote) (g .fits) wrote-part;
+          whole = g .whole ∙ rw (rest, v .printer, same-part, r) (after-part at (back .read) (g .records) (recordsOver p Read) _);
+        }
+
+    -- and some of it is read, so that less is left
+    pub turn-less : (at ≡ length input → ⊥) → (left ≡ 0 → ⊥) → roomForByte ≤ length out - written
+        → (0 < length (take (at + m - at) (drop at input)) → roomForByte ≤ length (midOf written (length out - written) out) → 0 < back .read)
+        → length input - (at + back .read) < length input - at
+    turn-less i a r some =
+        let n : 0 < back .read = some (simp (length-take, length-drop) (omega (arith, g .within))) (omega (arith, room-of-part, long)) in
+        omega (arith, within-input)

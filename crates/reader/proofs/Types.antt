@@ -1,12 +1,13 @@
 -- What the types of a state give: bytes are below 256, and arrays have their lengths.
-use Prim.Native.Nat.{ℕ, _≤_}
+use Prim.Native.Nat.{ℕ, suc, _≤_}
 use mathlib.Core.Path.{_≡_}
-use mathlib.Core.List.{List}
+use mathlib.Core.List.{List, [], _∷_}
 use native.Mathlib.Omega.{arith}
-use lib.ListN.{length, length-map}
+use lib.ListN.{length, getD, length-map}
 use mir.Val.{Val}
 use denote.Builtin.{u8}
 use denote.Laws.{Is}
+use Rattle.printer.specs.Tools.{Bytes}
 use Rattle.printer.specs.Bounds.{waitingTyped, StopsTyped, Typed}
 use Rattle.printer.specs.declared.commands.Waiting.{Waiting}
 use Rattle.printer.specs.declared.state.Printer.{Printer}
@@ -21,6 +22,11 @@ use Rattle.printer.proofs.state.Printer as P
 
 byte : {n : ℕ} {vs : List Val} → Is u8 n vs → n ≤ 255
 byte h = omega (arith, h .1)
+
+-- a slice of bytes
+pub known-bytes : (l : List ℕ) → ((i : ℕ) → getD l i 0 ≤ 255) → Bytes l
+known-bytes [] h = tt
+known-bytes (b ∷ l) h = (h 0, known-bytes l (λ i. h (suc i)))
 
 columns : (x : Columns) {vs : List Val} → Is C.the-row x vs → length (x .stops) ≡ 32
 columns x h = simp length-map at (h .1 .1 .0 .1 .0 .1)

@@ -3,27 +3,15 @@ use printer::answers::Answer;
 use printer::answers::Reading;
 use printer::answers::Report;
 use printer::answers::Started;
-use printer::commands::Frame;
-use printer::commands::Waiting;
-use printer::records::Record;
 use printer::settings::Setup;
 use printer::state::Printer;
 use printer::units::Resolution;
-use writing::Output;
-use writing::Stepped;
+use steps::ROOM;
 ghost use mathlib.Core.Path.{_≡_};
-ghost use mathlib.Core.List.{[], _∷_};
-ghost use Prim.Native.Nat.{_+_, _≤_};
-ghost use lib.ListN.{length};
+ghost use Prim.Native.Nat.{min};
 ghost use Rattle.printer.specs.Bounds.{Accepted};
 ghost use Rattle.printer.specs.Calls.{setup, started, StartPromise, ReadPromise, LentPromise};
-ghost use Rattle.printer.specs.Records.{recordSize, roomForByte};
-ghost use Rattle.printer.specs.Steps.{waitFor, stepOf, stepRecords};
-ghost use Rattle.writing.specs.Outcome.{recordsIn};
-ghost use Rattle.reader.specs.Parts.{Written, reading};
-
-// The room that a byte's records may take: it writes at most two.
-const ROOM: usize = 2 * Record::SIZE;
+ghost use Rattle.reader.specs.Parts.{reading};
 
 // The power-on state for the settings, with an answer.
 fn started(answer: Answer, resolution: Resolution, autofeed: bool) -> Started
@@ -52,64 +40,11 @@ pub fn start(resolution: u32, autofeed: bool) -> Started
     started(Answer::SettingsRefused, Resolution::Dots300, false)
 }
 
-// A printer that waits for something else.
-fn wait_for(p: Printer, waiting: Waiting) -> Printer
-    ensures { λ r. ⌜ r ≡ waitFor p waiting ⌝ }
+// The lesser of two numbers.
+fn least(a: usize, b: usize) -> usize
+    ensures { λ r. ⌜ r ≡ min a b ⌝ }
 {
-    let settings = p.settings;
-    let place = p.place;
-    let stops = p.stops;
-    Printer {
-        settings,
-        place,
-        stops,
-        waiting,
-    }
-}
-
-// One byte: its command, if it makes one whole, and what is waited for next.
-fn step(p: Printer, b: u8) -> Stepped
-    ensures { λ r. ⌜ (Accepted p → (r .printer ≡ stepOf p b) × (recordsIn (r .output) ≡ stepRecords p b)) ⌝ }
-{
-    let waiting = p.waiting;
-    match framing::frame(p.settings.upperprints, waiting, b) {
-        Frame::Waits(next) => writing::silent(wait_for(p, next)),
-        Frame::Whole(command, next) => {
-            let s = commands::command(p, command);
-            let q = s.printer;
-            let output = s.output;
-            Stepped {
-                printer: wait_for(q, next),
-                output,
-            }
-        }
-    }
-}
-
-// Writes a record from `at`, and gives the place after it.
-fn write_record(out: &mut [u8], at: usize, r: Record) -> usize
-    requires { ⌜ at + recordSize ≤ length (now out) ⌝ }
-    ensures { λ n. ⌜ Written (now (out .entry)) at (r ∷ []) n (now (out .exit)) ⌝ }
-{
-    let end = at + Record::SIZE;
-    let encoded = r.encoded();
-    bytes::copy(&encoded, &mut out[at..end]);
-    end
-}
-
-// Writes a byte's records from `at`, and gives the place after them.
-fn write_output(out: &mut [u8], at: usize, output: Output) -> usize
-    requires { ⌜ at + roomForByte ≤ length (now out) ⌝ }
-    ensures { λ n. ⌜ Written (now (out .entry)) at (recordsIn output) n (now (out .exit)) ⌝ }
-{
-    match output {
-        Output::None => at,
-        Output::One(r) => write_record(&mut *out, at, r),
-        Output::Two(r, s) => {
-            let next = write_record(&mut *out, at, r);
-            write_record(&mut *out, next, s)
-        }
-    }
+    if a < b { a } else { b }
 }
 
 // What a call gives back.
@@ -124,7 +59,7 @@ fn reading(answer: Answer, printer: Printer, read: usize, written: usize) -> Rea
     Reading { report, printer }
 }
 
-// Reads byte by byte, until the input or the allowance is used up or the output has no room for a byte's records.
+// Reads part by part, until the input or the allowance is used up or the output has no room for a byte's records.
 fn run(printer: Printer, input: &[u8], allowance: usize, out: &mut [u8]) -> Reading
     requires { ⌜ Accepted printer ⌝ }
     ensures { λ r. ⌜ ReadPromise printer (now (input .entry)) allowance (now (out .entry)) r (now (out .exit)) ⌝ }
@@ -144,13 +79,13 @@ fn run(printer: Printer, input: &[u8], allowance: usize, out: &mut [u8]) -> Read
         if room < ROOM {
             return reading(Answer::OutputFull, p, at, written);
         }
-        let s = step(p, input[at]);
-        let next = s.printer;
-        let output = s.output;
-        written = write_output(&mut *out, written, output);
+        let stop = at + least(left, input.len() - at);
+        let part = steps::read_part(p, &input[at..stop], &mut out[written..]);
+        let next = part.printer;
         p = next;
-        at += 1;
-        left -= 1;
+        at += part.read;
+        left -= part.read;
+        written += part.written;
     }
 }
 

@@ -2,9 +2,10 @@
 use Prim.Native.Nat.{_-_}
 use native.Mathlib.Omega.{arith}
 use borrow.Author.Needs.{needs}
+use denote.Ref.{now}
 use lib.ListN.{length}
-use Rattle.reader.proofs.Turns.{Going, begins, input-used, allowance-used, output-full, goes-on, long}
-use Rattle.reader.proofs.Types.{typed}
+use Rattle.reader.proofs.Turns.{Going, begins, input-used, allowance-used, output-full, within-allowance, within-input, within-output, goes-on, turn-less, long}
+use Rattle.reader.proofs.Types.{typed, known-bytes}
 use Rattle.reader.proofs.run.Statement.{statement}
 use Rattle.reader.proofs.run.Tie as tie
 
@@ -36,29 +37,74 @@ returns-3 c =
 sub-room : tie.Need-sub-room Inv-loop μ-loop
 sub-room c = let g = c .before .loop .inv in omega (arith, long g)
 
-write-output-requires : tie.Need-write-output-requires Inv-loop μ-loop
-write-output-requires c κs = omega arith
+sub-least : tie.Need-sub-least Inv-loop μ-loop
+sub-least c = let g = c .before .before .before .loop .inv in omega (arith, g .within)
+
+add-stop : tie.Need-add-stop Inv-loop μ-loop
+add-stop c =
+    let b = c .before .before .before .before in
+    let g = b .loop .inv in
+    omega (arith, c .least .ensures, g .within)
+
+part-end : tie.Need-part-read-part-end Inv-loop μ-loop
+part-end c =
+    let g = c .before .before .before .before .loop .inv in
+    omega (arith, c .least .ensures, g .within)
+
+part-start-2 : tie.Need-part-read-part-start-2 Inv-loop μ-loop
+part-start-2 c =
+    let g = c .before .before .before .before .before .loop .inv in
+    omega (arith, g .fits, long g)
 
 add-at : tie.Need-add-at Inv-loop μ-loop
 add-at c =
-    let b = c .before .before .before .before .before .before .before .before .before in
-    let h = b .before .loop .inv .within in
-    let f = b .before .before .before .before .fits in
-    omega (arith, f, h)
+    let d = c .before .before .before .before in
+    let l = d .before .before .before in
+    let b = l .before .before .before .before in
+    let g = b .loop .inv in
+    let h = within-input g (l .least .ensures) (d .read-part .ensures .0 (g .ours .accepted)) in
+    let f = b .before .before .before .good .1 .0 in
+    omega (arith, h, f)
+
+sub-left : tie.Need-sub-left Inv-loop μ-loop
+sub-left c =
+    let d = c .before .before .before .before .before in
+    let l = d .before .before .before in
+    let g = l .before .before .before .before .loop .inv in
+    within-allowance g (l .least .ensures) (d .read-part .ensures .0 (g .ours .accepted))
+
+add-written : tie.Need-add-written Inv-loop μ-loop
+add-written c =
+    let d = c .before .before .before .before .before .before in
+    let l = d .before .before .before in
+    let b = l .before .before .before .before in
+    let g = b .loop .inv in
+    let h = within-output g (l .least .ensures) (d .read-part .ensures .0 (g .ours .accepted)) in
+    let f = b .before .before .before .good .1 .1 .1 .0 in
+    omega (arith, h, f)
+
+loop-less : tie.Need-loop-less Inv-loop μ-loop
+loop-less c =
+    let d = c .before .before .before .before .before .before in
+    let l = d .before .before .before in
+    let b = l .before .before .before in
+    let g = b .before .loop .inv in
+    turn-less g (l .least .ensures) (d .read-part .ensures .0 (g .ours .accepted)) (b .if1 .left) (l .before .before .if2 .left)
+    (l .before .if3 .left) (d .read-part .ensures .1)
 
 loop-again : tie.Need-loop-again Inv-loop μ-loop
 loop-again c =
-    let d = c .before .before .before .before .before in
-    let b = d .before .before .before .before in
-    let g = b .before .loop .inv in
-    goes-on g (b .if1 .left) (d .before .before .before .if2 .left) (d .before .before .if3 .left)
-    (omega (arith, d .before .shared-slice-known2 .given (b .before .loop .at)))
-    (d .step .ensures (g .ours .accepted)) (c .before .before .write-output .ensures)
+    let d = c .before .before .before .before .before .before in
+    let l = d .before .before .before in
+    let b = l .before .before .before .before in
+    let g = b .loop .inv in
+    goes-on g (l .least .ensures) (d .read-part .ensures .0 (g .ours .accepted))
+    (known-bytes (now (b .before .before .before .args .input)) (λ i. omega (arith, b .before .before .shared-slice-known .given i)))
 
 pub run-spec : {M : Type 1} → statement M
 run-spec =
     tie.close
     (tie.spec Inv-loop μ-loop loop-holds (λ c κs. search needs) (λ c. long (c .before .before .loop .inv)) returns
     sub-room (λ c κs. search needs) (λ c. long (c .before .before .before .loop .inv)) returns-2 (λ c κs. search needs)
-    (λ c. long (c .before .before .before .before .loop .inv)) returns-3 (λ c. omega arith) (λ c κs. search needs)
-    write-output-requires add-at (λ c. omega arith) (λ c. omega arith) loop-again)
+    (λ c. long (c .before .before .before .before .loop .inv)) returns-3 sub-least (λ c κs. search needs) add-stop (λ c. search needs) (λ c. search needs) part-end
+    (λ c. search needs) part-start-2 (λ c. search needs) (λ c κs. search needs) add-at sub-left add-written loop-less loop-again)

@@ -2,9 +2,9 @@
 use borrow.Author.Needs.{needs}
 use native.Mathlib.Omega.{arith}
 use denote.Ref.{now}
-use Rattle.reader.proofs.Writes.{none, more}
-use Rattle.reader.proofs.write_output.Statement.{statement}
-use Rattle.reader.proofs.write_output.Tie as tie
+use Rattle.steps.proofs.Writes.{none, more}
+use Rattle.steps.proofs.write_output.Statement.{statement}
+use Rattle.steps.proofs.write_output.Tie as tie
 
 returns : tie.Need-returns
 returns c =

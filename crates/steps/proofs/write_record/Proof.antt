@@ -2,9 +2,9 @@
 use borrow.Author.Needs.{needs}
 use native.Mathlib.Omega.{arith}
 use denote.Ref.{now}
-use Rattle.reader.proofs.Writes.{one}
-use Rattle.reader.proofs.write_record.Statement.{statement}
-use Rattle.reader.proofs.write_record.Tie as tie
+use Rattle.steps.proofs.Writes.{one}
+use Rattle.steps.proofs.write_record.Statement.{statement}
+use Rattle.steps.proofs.write_record.Tie as tie
 
 returns : tie.Need-returns
 returns c =

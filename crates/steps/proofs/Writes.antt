@@ -5,12 +5,12 @@ use mathlib.Core.List.{List, [], _∷_, _++_, append-assoc, append-nil}
 use native.Mathlib.Nat.{add-sub-cancel-left}
 use native.Mathlib.Omega.{arith}
 use lib.ListN.{length, take, drop, length-append, length-take, length-drop, drop-of-length-le, take-append-drop}
-use lib.Seq.{drop-drop, take-length, length-take-le, take-at, drop-at}
+use lib.Seq.{drop-drop, take-length, take-all, length-take-le, take-at, drop-at}
 use borrow.Rule.Slice.PartMut.{putMid, midOf}
 use Rattle.printer.specs.Records.{recordSize, encoded, encodedAll}
 use Rattle.printer.specs.declared.records.Record.{Record}
 use Rattle.printer.proofs.Bytes.{length-encoded, length-encodedAll, encodedAll-append}
-use Rattle.reader.specs.Parts.{Written}
+use Rattle.steps.specs.Output.{Written}
 
 pub none : (xs : List ℕ) (at : ℕ) → Written xs at [] at xs
 unfolding encodedAll
@@ -28,6 +28,18 @@ one xs zs at r h e =
     record {
       place = omega arith;
       bytes = rw (e, rest, take-length, append-nil) (simp (add-sub-cancel-left, drop-drop));
+    }
+
+-- records written from the beginning of the last part
+pub lent : {xs ys : List ℕ} {at end : ℕ} {l : List Record} → at ≤ length xs → Written (midOf at (length xs - at) xs) 0 l end ys
+    → Written xs at l (at + end) (putMid at (length xs - at) xs ys)
+lent {xs} {ys} {at} {end} {l} h w =
+    let whole : midOf at (length xs - at) xs ≡ drop at xs = take-all (length xs - at) (drop at xs) (simp length-drop (omega arith)) in
+    let rest : drop (length xs - at) (drop at xs) ≡ [] =
+    drop-of-length-le (drop at xs) {i = length xs - at} (simp length-drop (omega arith)) in
+    record {
+      place = omega (arith, w .place);
+      bytes = rw (rest, append-nil, w .bytes, whole, drop-drop);
     }
 
 module _ {xs ys : List ℕ} {at end : ℕ} {l : List Record} (w : Written xs at l end ys) (fits : end ≤ length xs) where

@@ -3,8 +3,8 @@ use mathlib.Core.Path.{refl, sym, _∙_}
 use borrow.Author.Needs.{needs}
 use Rattle.printer.specs.Performing.{performAll, recordsAll}
 use Rattle.printer.specs.Steps.{stepEvents, stepOf, stepRecords}
-use Rattle.reader.proofs.step.Statement.{statement}
-use Rattle.reader.proofs.step.Tie as tie
+use Rattle.steps.proofs.step.step.Statement.{statement}
+use Rattle.steps.proofs.step.step.Tie as tie
 
 returns : tie.Need-returns
 unfolding stepEvents stepOf stepRecords performAll recordsAll
