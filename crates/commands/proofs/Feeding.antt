@@ -5,7 +5,7 @@ use mathlib.Core.Bool.{Bool, true, false}
 use mathlib.Core.List.{[], _∷_}
 use native.Mathlib.Nat.{div-add-mod', mul-le-mul-left, mod-eq-of-lt}
 use native.Mathlib.Omega.{arith}
-use borrow.Author.Tests.{ltb-true, ltb-false, le-leb, lt-leb}
+use borrow.Author.Tests.{ltb-true, ltb-false, le-leb, lt-leb, ne-eqb}
 use Rattle.printer.specs.Tools.{pick}
 use Rattle.printer.specs.Records.{feedRecord}
 use Rattle.printer.specs.Settings.{lineOf, edgeOf, acrossOf, downOf, at}
@@ -19,8 +19,8 @@ use Rattle.writing.specs.Outcome.{stepped, Outcome}
 use Rattle.writing.specs.declared.Output.{Output}
 use Rattle.writing.specs.declared.Stepped.{Stepped}
 use Rattle.writing.proofs.Outcomes.{whole}
-use Rattle.commands.specs.Reaching.{downward, furtherDown}
-use Rattle.commands.specs.Leaving.{lineTo, Writes}
+use Rattle.commands.specs.Reaching.{downward}
+use Rattle.commands.specs.Leaving.{lineTo, fed, Writes}
 use Rattle.commands.specs.declared.lines.Depth.{Depth}
 use Rattle.commands.specs.declared.positions.Position.{Position}
 use Rattle.commands.proofs.Attempts.{reached, unreached}
@@ -67,11 +67,8 @@ module _ (p : Printer) (n : ℕ) (k : n ≤ 255) (h : Accepted p) where
   pages-fit : sum / edge < 256
   pages-fit = omega (arith, div-add-mod' sum edge, mul-le-mul-left (sum / edge) edge-enough)
 
-  pub feed-done : (d : Depth) → (0 < edge → d ≡ furtherDown (downOf (p .place)) n edge) → {r : Stepped}
-      → r ≡ stepped (withParts p (p .settings) (at (acrossOf (p .place)) (d .down)) (p .stops))
-      (Output.One (feedRecord (p .settings .setup .resolution) (d .down) (d .pages)))
-      → Outcome p (done (Command.Feed n) (sum / edge) ∷ []) r
-  feed-done d e o =
+  pub feed-done : {r : Stepped} → r ≡ fed p n → Outcome p (done (Command.Feed n) (sum / edge) ∷ []) r
+  feed-done e =
       whole p (done (Command.Feed n) (sum / edge))
       (Output.One (feedRecord (p .settings .setup .resolution) (sum % edge) (sum / edge)))
-      (o ∙ rw (e (omega (arith, edge-enough)), mod-eq-of-lt pages-fit)) refl
+      (e ∙ rw (ne-eqb edge 0 (omega (arith, edge-enough)), mod-eq-of-lt pages-fit)) refl

@@ -2,7 +2,7 @@
 use Prim.Native.Nat.{ℕ}
 use mathlib.Core.Path.{_≡_}
 use mathlib.Core.List.{[], _∷_}
-use Rattle.printer.specs.Settings.{leftOf, downOf, at, withMargins}
+use Rattle.printer.specs.Settings.{leftOf, edgeOf, acrossOf, downOf, at, withMargins}
 use Rattle.printer.specs.Records.{feedRecord, passedRecord}
 use Rattle.printer.specs.Performing.{Event, endWideOnce, withLineStop, withParts, perform, recordsOf}
 use Rattle.printer.specs.declared.records.Record.{Record}
@@ -11,6 +11,8 @@ use Rattle.printer.specs.declared.stops.Stops.{Stops}
 use Rattle.writing.specs.Outcome.{stepped}
 use Rattle.writing.specs.declared.Output.{Output}
 use Rattle.writing.specs.declared.Stepped.{Stepped}
+use Rattle.commands.specs.Reaching.{furtherDown}
+use Rattle.commands.specs.declared.lines.Depth.{Depth}
 use Rattle.commands.specs.declared.lines.Written.{Written}
 use Rattle.commands.specs.declared.positions.Position.{Position}
 
@@ -44,6 +46,15 @@ onLine p down = withParts p (endWideOnce (p .settings)) (at (leftOf (p .settings
 abbrev pub lineTo : Printer → (down pages : ℕ) → Written
 lineTo p down pages =
     record { printer = onLine p down; wrote = feedRecord (p .settings .setup .resolution) down pages }
+
+-- ESC J, in every state
+abbrev pub fedFrom : Printer → Depth → Stepped
+fedFrom p d =
+    stepped (withParts p (p .settings) (at (acrossOf (p .place)) (d .down)) (p .stops))
+    (Output.One (feedRecord (p .settings .setup .resolution) (d .down) (d .pages)))
+
+abbrev pub fed : Printer → (n : ℕ) → Stepped
+fed p n = fedFrom p (furtherDown (downOf (p .place)) n (edgeOf (p .settings)))
 
 -- a vertical stop more in the list being gathered
 abbrev pub lineStopAdded : Stops → ℕ → Stops

@@ -1,7 +1,7 @@
 -- Where moves end, if they are allowed.
 use Prim.Native.Nat.{ℕ, _+_, _*_, _-_, _/_, _%_}
 use mathlib.Core.Bool.{Bool, true, false}
-use lib.Dec.{leb, ltb}
+use lib.Dec.{leb, ltb, eqb}
 use Rattle.printer.specs.Tools.{pick, both}
 use Rattle.printer.specs.Widths.{columnWidth}
 use Rattle.printer.specs.Performing.{relativeMove}
@@ -47,6 +47,8 @@ abbrev pub lineStop : (line edge count n : ℕ) → Position
 lineStop line edge count n =
     reach (both (ltb count 16) (both (leb 1 (n * line)) (ltb (n * line) edge))) (n * line)
 
--- down by n/180 inch, over edges
+-- down by n/180 inch, over edges; nowhere, if the edge is the top
 abbrev pub furtherDown : (down n edge : ℕ) → Depth
-furtherDown down n edge = record { down = (down + 20 * n) % edge; pages = (down + 20 * n) / edge % 256 }
+furtherDown down n edge =
+    pick (eqb edge 0) (record { down = down; pages = 0 })
+    (record { down = (down + 20 * n) % edge; pages = (down + 20 * n) / edge % 256 })

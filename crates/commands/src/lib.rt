@@ -15,8 +15,11 @@ use printer::state::Printer;
 use writing::Stepped;
 use writing::passed;
 use writing::silent;
+ghost use Prim.Native.Nat.{ℕ};
+ghost use mathlib.Core.Path.{_≡_};
 ghost use Rattle.printer.specs.Bounds.{Accepted};
 ghost use Rattle.printer.specs.Deciding.{decide};
+ghost use Rattle.printer.specs.declared.commands.Command.{Command};
 ghost use Rattle.writing.specs.Outcome.{Outcome};
 
 mod controls;
@@ -28,9 +31,9 @@ mod moves;
 mod positions;
 mod tabs;
 
-// The state that the rules leave after a command, and their records. (Only ESC J needs a state within its bounds.)
+// The state that the rules leave after a command, and their records; of ESC J, which divides by the edge, in a state within its bounds.
 pub fn command(p: Printer, c: Command) -> Stepped
-    ensures { λ r. ⌜ (Accepted p → Outcome p (decide p c) r) ⌝ }
+    ensures { λ r. ⌜ (((n : ℕ) → c ≡ Command.Feed n → Accepted p) → Outcome p (decide p c) r) ⌝ }
 {
     match c {
         Command::Letter(b) => letter(p, b),

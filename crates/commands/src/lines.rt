@@ -14,7 +14,7 @@ use writing::with_place;
 use writing::wrote;
 ghost use mathlib.Core.Path.{_≡_};
 ghost use mathlib.Core.List.{[], _∷_};
-ghost use Prim.Native.Nat.{_+_, _*_, _/_, _<_};
+ghost use Prim.Native.Nat.{_+_, _*_, _/_};
 ghost use Rattle.printer.specs.Bounds.{Accepted};
 ghost use Rattle.printer.specs.Settings.{edgeOf, downOf};
 ghost use Rattle.printer.specs.Performing.{done, inside, perform};
@@ -23,7 +23,7 @@ ghost use Rattle.printer.specs.declared.commands.Command.{Command};
 ghost use Rattle.printer.specs.declared.commands.Control.{Control};
 ghost use Rattle.writing.specs.Outcome.{Outcome, stepped};
 ghost use Rattle.commands.specs.Reaching.{furtherDown};
-ghost use Rattle.commands.specs.Leaving.{onLine, lineTo, Writes};
+ghost use Rattle.commands.specs.Leaving.{onLine, lineTo, fed, Writes};
 
 // The printer after an event that writes one record, and that record.
 pub struct Written {
@@ -116,9 +116,9 @@ struct Depth {
     pages: u8,
 }
 
-// n/180 inch further down, over edges. (A state within its bounds has an edge, and turns at most 23 pages.)
+// n/180 inch further down, over edges. (The edge of a state within its bounds is not the top, and two pages turn at most.)
 fn further_down(down: Units, n: u8, edge: Units) -> Depth
-    ensures { λ r. ⌜ (0 < edge .0 → r ≡ furtherDown (down .0) n (edge .0)) ⌝ }
+    ensures { λ r. ⌜ r ≡ furtherDown (down .0) n (edge .0) ⌝ }
 {
     if edge.0 == 0 {
         return Depth {
@@ -134,8 +134,9 @@ fn further_down(down: Units, n: u8, edge: Units) -> Depth
     }
 }
 
-// ESC J: down by n/180 inch.
+// ESC J: down by n/180 inch. In a state within its bounds it is what the rules do.
 pub fn feed(p: Printer, n: u8) -> Stepped
+    ensures { λ r. ⌜ r ≡ fed p n ⌝ }
     ensures { λ r. ⌜ (Accepted p → Outcome p (done (Command.Feed n) ((downOf (p .place) + 20 * n) / edgeOf (p .settings)) ∷ []) r) ⌝ }
 {
     let s = p.settings;

@@ -35,7 +35,7 @@ command-spec =
     (λ c _. rw (c .before .enum-told2 .given .1) (c .reset .ensures))
     (λ c _. rw (c .before .before .c5 .given .1) (c .mode .ensures))
     (λ c _. rw (c .before .before .c6 .given .1) (c .parameter .ensures))
-    (λ c h. rw (c .before .before .c7 .given .1) (c .feed .ensures h))
+    (λ c h. rw (c .before .before .c7 .given .1) (c .feed .ensures .1 (h _ (c .before .before .c7 .given .1))))
     (λ c _. rw (c .before .before .c8 .given .1) (c .left-margin .ensures))
     (λ c _. rw (c .before .before .c9 .given .1) (c .right-margin .ensures))
     (λ c _. rw (c .before .before .c10 .given .1) (c .page-lines .ensures))

@@ -19,7 +19,7 @@ unfolding stepEvents stepOf stepRecords
 returns-2 c =
     λ a.
     let d = c .before .before .before .before in
-    let o = c .before .before .command2 .ensures a in
+    let o = c .before .before .command2 .ensures (λ _ _. a) in
     rw (sym (d .before .before .frame .ensures) ∙ d .command .given .1) (rw (c .wait-for2 .ensures, o .printer), o .records)
 
 pub step-spec : {M : Type 1} → statement M

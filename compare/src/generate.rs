@@ -1,0 +1,279 @@
+//! Generated inputs, mostly well-formed commands with arguments at and beside
+//! the limits of the rules.
+
+use crate::random::Random;
+
+const ESC: u8 = 0x1B;
+const CONTROLS: [u8; 10] = [8, 9, 10, 11, 12, 13, 14, 15, 18, 20];
+const PLAIN_ESCAPES: &[u8] = b"022OPPMMggEFGH4455T6677\x0E\x0F\x0E\x0F";
+const ONE_ARGUMENT: &[u8] = b"33A++JJJNNllQQpSxWWw-%tRqk  !!";
+
+/// Numbers beside which a rule changes, for any one-byte argument.
+const EDGES: [u8; 24] = [
+    0, 1, 2, 3, 4, 5, 6, 12, 13, 14, 0x30, 0x31, 0x32, 0x40, 0x41, 79, 80, 84, 85, 86, 126, 127,
+    128, 255,
+];
+
+/// An input of so many phrases.
+pub fn input(random: &mut Random, phrases: u64) -> Vec<u8> {
+    let mut bytes = Vec::new();
+    for _ in 0..phrases {
+        phrase(random, &mut bytes);
+    }
+    bytes
+}
+
+/// Adds one phrase: a run of letters, a command, or a telling group of them.
+pub fn phrase(random: &mut Random, to: &mut Vec<u8>) {
+    match random.weighted(&[20, 22, 12, 22, 10, 6, 6, 4, 2, 3, 2, 2, 1]) {
+        0 => letters(random, to),
+        1 => to.push(random.pick(&CONTROLS)),
+        2 => to.extend([ESC, random.pick(PLAIN_ESCAPES)]),
+        3 => one_argument(random, to),
+        4 => across_moves(random, to),
+        5 => image(random, to),
+        6 => stop_list(random, to),
+        7 => page(random, to),
+        8 => close_margins(random, to),
+        9 => upper_codes(random, to),
+        10 => random_bytes(random, to),
+        11 => stops_past_the_edge(random, to),
+        _ => to.extend([ESC, b'@']),
+    }
+}
+
+fn letters(random: &mut Random, to: &mut Vec<u8>) {
+    let longest = random.pick(&[1, 2, 4, 12, 12, 90]);
+    for _ in 0..random.between(1, longest) {
+        let letter = match random.below(12) {
+            0 => random.pick(&[0x20, 0x7E, 0xA0, 0xFF]),
+            1 => random.between(0xA0, 0xFF) as u8,
+            _ => random.between(0x20, 0x7E) as u8,
+        };
+        to.push(letter);
+    }
+}
+
+fn random_bytes(random: &mut Random, to: &mut Vec<u8>) {
+    for _ in 0..random.between(1, 6) {
+        to.push(random.byte());
+    }
+    if random.flag() {
+        to.extend([ESC, random.byte()]);
+    }
+}
+
+fn one_argument(random: &mut Random, to: &mut Vec<u8>) {
+    let command = random.pick(ONE_ARGUMENT);
+    to.extend([ESC, command, argument(random, command)]);
+}
+
+/// An argument at, beside or far from the limits of its command.
+pub fn argument(random: &mut Random, command: u8) -> u8 {
+    match random.below(10) {
+        0 => random.byte(),
+        1 => random.pick(&EDGES),
+        _ => usual_argument(random, command),
+    }
+}
+
+fn usual_argument(random: &mut Random, command: u8) -> u8 {
+    match command {
+        b'3' | b'+' => random.pick(&[0, 1, 7, 18, 20, 24, 30, 36, 60, 120, 180, 254, 255]),
+        b'A' => random.pick(&[0, 1, 5, 10, 12, 60, 84, 85, 86, 87]),
+        b'J' => random.pick(&[0, 1, 3, 30, 60, 127, 128, 180, 200, 254, 255]),
+        b'N' => random.pick(&[0, 1, 2, 5, 6, 10, 59, 60, 61, 126, 127, 128]),
+        b'l' => random.pick(&[0, 0, 1, 2, 3, 5, 8, 10, 30, 78, 79, 80, 81]),
+        b'Q' => random.pick(&[1, 2, 3, 6, 10, 40, 79, 80, 80, 81, 95, 96, 97, 120, 160]),
+        b'p' | b'S' | b'x' | b'W' | b'w' | b'-' | b'%' => {
+            random.pick(&[0, 1, 0x30, 0x31, 0, 1, 0x30, 0x31, 2, 0x32])
+        }
+        b't' => random.pick(&[0, 1, 0, 1, 2, 0x30]),
+        b'R' => random.pick(&[0, 1, 7, 12, 13, 14, 0x3F, 0x40, 0x41]),
+        b'q' => random.pick(&[0, 1, 2, 3, 4, 0x30, 0x33]),
+        b' ' => random.pick(&[0, 0, 0, 1, 2, 9, 126, 127, 128, 129, 255]),
+        b'!' => format_argument(random),
+        _ => random.byte(),
+    }
+}
+
+/// An ESC ! argument: any, or one bit set or one clear.
+fn format_argument(random: &mut Random) -> u8 {
+    let bit = 1 << random.below(8);
+    match random.below(4) {
+        0 => 0,
+        1 => bit,
+        2 => !bit,
+        _ => random.byte(),
+    }
+}
+
+/// ESC $ or ESC \ with a near or a far place.
+fn across_moves(random: &mut Random, to: &mut Vec<u8>) {
+    if random.flag() {
+        to.extend([ESC, b'$']);
+        to.extend(absolute_place(random).to_le_bytes());
+    } else {
+        to.extend([ESC, b'\\']);
+        to.extend(relative_move(random).to_le_bytes());
+    }
+}
+
+fn absolute_place(random: &mut Random) -> u16 {
+    match random.below(20) {
+        0..=9 => random.below(490) as u16,
+        10 => random.pick(&[814, 815, 816, 0x7FFF, 0xFFFF]),
+        _ => random.pick(&[0, 1, 6, 59, 60, 240, 479, 480, 481]),
+    }
+}
+
+fn relative_move(random: &mut Random) -> i16 {
+    let size = match random.below(20) {
+        0..=9 => random.below(80) as i16,
+        10 => random.pick(&[i16::MAX, i16::MIN, i16::MIN + 1]),
+        11..=13 => random.pick(&[959, 960, 961, 1_439, 1_440, 1_441]),
+        _ => random.pick(&[0, 1, 12, 18, 24, 36]),
+    };
+    if random.flag() {
+        size
+    } else {
+        size.wrapping_neg()
+    }
+}
+
+/// An image command with its data, now and then too little of it.
+fn image(random: &mut Random, to: &mut Vec<u8>) {
+    let count = match random.below(24) {
+        0..=2 => 0,
+        3..=6 => 1,
+        7 => random.pick(&[255, 256, 257]),
+        8 if random.flag() => random.pick(&[479, 480, 481, 959, 960, 961]),
+        9 if random.percent(5) => random.pick(&[1_919, 1_920, 1_921, 32_768, 65_535]),
+        _ => random.between(2, 12) as u16,
+    };
+    let data = match random.below(12) {
+        0 => u64::from(count) / 2,
+        _ => u64::from(count).min(2_000),
+    };
+    to.extend([ESC, random.pick(b"KLYZ")]);
+    to.extend(count.to_le_bytes());
+    let begin = to.len();
+    for _ in 0..data {
+        to.push(random.byte());
+    }
+    if data >= 2 && random.flag() {
+        to[begin] = ESC;
+        to[begin + 1] = b'@';
+    }
+}
+
+/// ESC D or ESC B with 0 to 40 stops and some ending.
+fn stop_list(random: &mut Random, to: &mut Vec<u8>) {
+    to.extend([ESC, random.pick(b"DDB")]);
+    let stops = match random.below(8) {
+        0 => 0,
+        1 => random.pick(&[15, 16, 17, 31, 32, 33, 40]),
+        _ => random.between(1, 8),
+    };
+    let step = random.pick(&[1, 2, 2, 5, 9]);
+    let mut last = 0u64;
+    for _ in 0..stops {
+        last = random.between(last + 1, last + step);
+        if random.percent(3) {
+            last = last.max(0x1B);
+        }
+        if last > 255 {
+            break;
+        }
+        to.push(last as u8);
+    }
+    match random.below(12) {
+        0 => to.push((last.min(255)) as u8),
+        1 => to.push(random.below(last.min(255) + 1) as u8),
+        2 => to.extend([ESC, b'@']),
+        3 => {}
+        _ => to.push(0),
+    }
+}
+
+/// Page lengths, skips and line amounts near their limits, then feeds.
+fn page(random: &mut Random, to: &mut Vec<u8>) {
+    match random.below(5) {
+        0 => {
+            let inches = random.pick(&[0, 1, 1, 1, 2, 2, 11, 21, 22, 23, 128, 255]);
+            to.extend([ESC, b'C', 0, inches]);
+        }
+        1 => {
+            let line = random.pick(&[0, 1, 2, 10, 12, 60, 62, 63, 85]);
+            let lines = random.pick(&[1, 5, 6, 7, 20, 30, 59, 60, 61, 126, 127, 128, 255]);
+            to.extend([ESC, b'A', line, ESC, b'C', lines]);
+        }
+        2 => {
+            let first = random.pick(&[104, 105, 106, 178, 179]);
+            to.extend([ESC, b'C', 0, 1, ESC, b'J', first, ESC, b'J']);
+            to.push(random.between(254, 255) as u8);
+        }
+        3 => to.extend([ESC, b'N', argument(random, b'N'), ESC, random.pick(b"OJ0")]),
+        _ => to.extend([ESC, b'C', random.pick(&[0, 1, 5, 6, 66, 127, 128])]),
+    }
+    for _ in 0..random.below(6) {
+        match random.below(5) {
+            0 => to.push(12),
+            1 => to.extend([ESC, b'J', random.pick(&[105, 180, 250, 255])]),
+            2 => to.push(11),
+            3 => to.extend([ESC, b'J', argument(random, b'J')]),
+            _ => to.push(10),
+        }
+    }
+}
+
+/// Vertical stops that a skip or a shorter page may leave past the edge.
+fn stops_past_the_edge(random: &mut Random, to: &mut Vec<u8>) {
+    let lines = random.pick(&[7, 8, 12, 66]);
+    to.extend([ESC, b'2', ESC, b'C', lines, ESC, b'B']);
+    for up in [3, 2, 1, 0] {
+        if random.flag() {
+            to.push(lines - up);
+        }
+    }
+    to.extend([0, ESC, b'N', random.between(1, 3) as u8]);
+    if random.percent(20) {
+        to.extend([ESC, b'C', 0, 1]);
+    }
+    for _ in 0..random.between(1, 4) {
+        to.push(random.pick(&[11, 11, 10, b'V']));
+    }
+}
+
+/// Margins close together, and letters that may not fit between them.
+fn close_margins(random: &mut Random, to: &mut Vec<u8>) {
+    let left = random.pick(&[0, 1, 2, 5, 10, 39, 77, 78, 79]);
+    let right = left + random.between(0, 4) as u8;
+    to.extend([ESC, b'l', 0, ESC, b'Q', right, ESC, b'l', left]);
+    if random.flag() {
+        to.push(random.pick(&[14, 15, 18, 20]));
+    }
+    for _ in 0..random.between(1, 6) {
+        match random.below(5) {
+            0 => to.push(14),
+            1 => to.push(random.pick(&CONTROLS)),
+            _ => to.push(random.between(0x41, 0x5A) as u8),
+        }
+    }
+    if random.percent(60) {
+        to.extend([ESC, b'!', 0, ESC, b' ', 0, ESC, b'l', 0, ESC, b'Q', 80]);
+    }
+}
+
+/// ESC 6 or ESC 7 and bytes from 80h to 9Fh.
+fn upper_codes(random: &mut Random, to: &mut Vec<u8>) {
+    to.extend([ESC, random.pick(b"677")]);
+    for _ in 0..random.between(1, 5) {
+        match random.below(6) {
+            0 => to.push(random.between(0x80, 0x9F) as u8),
+            1 => to.extend([0x9B, random.pick(b"E4\x0F\x8F6")]),
+            2 => to.extend([ESC, random.between(0x80, 0x9F) as u8]),
+            _ => to.push(0x80 + random.pick(&CONTROLS)),
+        }
+    }
+}

@@ -1,0 +1,249 @@
+//! The two readers held against each other, call by call.
+
+use crate::calls::{Call, FILL};
+use crate::mirror;
+use crate::reckoning::{expected, Printed};
+use crate::states;
+use ierbulosc::State as Mirror;
+use plain_reader::{Report, State, Waiting};
+
+/// A state to begin from, if not from a start, and a list of calls.
+#[derive(Clone, PartialEq, Eq, Debug)]
+pub struct Case {
+    pub state: Option<Mirror>,
+    pub calls: Vec<Call>,
+}
+
+/// What a call came back with from one of the readers.
+#[derive(Clone, PartialEq, Eq, Debug)]
+pub struct Came {
+    pub answer: u8,
+    pub read: usize,
+    pub written: usize,
+    /// The whole output, which held `FILL` before the call.
+    pub out: Vec<u8>,
+    /// The state; none if the plain reader's has no mirror.
+    pub state: Option<Mirror>,
+}
+
+/// A record of the proved reader's, as bytes.
+pub type Record = [u8; ierbulosc::RECORD_SIZE];
+
+/// How the readers differ.
+#[derive(Clone, PartialEq, Eq, Debug)]
+pub enum Difference {
+    /// A call that the proved reader came back from otherwise.
+    Call {
+        index: usize,
+        plain: Box<Came>,
+        proved: Box<Came>,
+    },
+    /// The letters and image bytes that the reckoning of exact places has due
+    /// over all calls, and the TX and IM records that came, from the first on
+    /// that differ.
+    Printed {
+        due: Vec<Printed>,
+        came: Vec<Record>,
+    },
+}
+
+/// What was done so far.
+#[derive(Clone, Copy, PartialEq, Eq, Debug, Default)]
+pub struct Tally {
+    pub calls: u64,
+    pub bytes: u64,
+}
+
+/// The first difference in a case, if there is one.
+pub fn difference(case: &Case, tally: &mut Tally) -> Option<Difference> {
+    let mut pair = Pair::new(case.state.as_ref());
+    let mut reads = Vec::with_capacity(case.calls.len());
+    let mut printed = Vec::new();
+    for (index, call) in case.calls.iter().enumerate() {
+        let (plain, proved, same) = pair.call(call);
+        if !same {
+            return Some(Difference::Call {
+                index,
+                plain: Box::new(plain),
+                proved: Box::new(proved),
+            });
+        }
+        tally.calls += 1;
+        tally.bytes += proved.read as u64;
+        reads.push(proved.read);
+        printed.extend(letters_and_images(&proved));
+    }
+    match case.state {
+        None => misprinted(expected(&case.calls, &reads), printed),
+        Some(_) => None,
+    }
+}
+
+/// What both readers come back with from each call of a case.
+pub fn outcomes(case: &Case) -> Vec<(Came, Came)> {
+    let mut pair = Pair::new(case.state.as_ref());
+    let both = |call| {
+        let (plain, proved, _) = pair.call(call);
+        (plain, proved)
+    };
+    case.calls.iter().map(both).collect()
+}
+
+/// The TX and IM records of a call.
+fn letters_and_images(came: &Came) -> impl Iterator<Item = Record> + '_ {
+    let records = came.out[..came.written].chunks_exact(ierbulosc::RECORD_SIZE);
+    let marked = records.filter(|record| matches!(&record[..2], b"TX" | b"IM"));
+    marked.filter_map(|record| record.try_into().ok())
+}
+
+/// The exact places against the records.
+fn misprinted(due: Vec<Printed>, came: Vec<Record>) -> Option<Difference> {
+    let good = |(due, came): &(&Printed, &Record)| due.inside && due.record == **came;
+    let same = due.iter().zip(&came).take_while(good).count();
+    if same == due.len() && same == came.len() {
+        return None;
+    }
+    Some(Difference::Printed {
+        due: due[same..].to_vec(),
+        came: came[same..].to_vec(),
+    })
+}
+
+/// The readers side by side, with their states.
+struct Pair {
+    /// None for a mirror that stands for no plain state.
+    plain: Option<State>,
+    proved: Mirror,
+    /// Whether a start came before.
+    started: bool,
+}
+
+impl Pair {
+    /// From a state, or before any call: as after a refused start.
+    fn new(state: Option<&Mirror>) -> Pair {
+        match state {
+            Some(state) => Pair {
+                plain: mirror::plain(state),
+                proved: *state,
+                started: false,
+            },
+            None => Pair {
+                plain: Some(plain_reader::start(0, false).1),
+                proved: Mirror::start(0, false).1,
+                started: true,
+            },
+        }
+    }
+
+    /// What both come back with, and whether it is the same.
+    fn call(&mut self, call: &Call) -> (Came, Came, bool) {
+        match call {
+            Call::Start { dots, auto_feed } => self.start(*dots, *auto_feed),
+            Call::Read {
+                input,
+                allowance,
+                room,
+            } => {
+                let plain = self.read_plain(input, *allowance, *room);
+                let proved = self.read_proved(input, *allowance, *room);
+                let same = self.same(&plain, &proved);
+                (plain, proved, same)
+            }
+        }
+    }
+
+    /// A start, after which every field is looked at.
+    fn start(&mut self, dots: u32, auto_feed: bool) -> (Came, Came, bool) {
+        let (answer, state) = plain_reader::start(dots, auto_feed);
+        let plain = Came::from_start(answer, mirror::mirror(&state, 0));
+        self.plain = Some(state);
+        let (answer, state) = Mirror::start(dots, auto_feed);
+        let proved = Came::from_start(answer, Some(state));
+        self.proved = state;
+        self.started = true;
+        let same = plain == proved;
+        (plain, proved, same)
+    }
+
+    /// The plain reader's reading call; a mirror that stands for no plain state
+    /// is refused.
+    fn read_plain(&mut self, input: &[u8], allowance: usize, room: usize) -> Came {
+        let mut out = vec![FILL; room];
+        let mut report = Report {
+            answer: plain_reader::STATE_REFUSED,
+            read: 0,
+            written: 0,
+        };
+        let mut mirror = Some(self.proved);
+        if let Some(state) = &mut self.plain {
+            let before = state.clone();
+            report = plain_reader::read(state, input, allowance, &mut out);
+            if report.answer != plain_reader::STATE_REFUSED {
+                let first = self.proved.waiting.command;
+                mirror = left(&before, first, &input[..report.read], state);
+            }
+        }
+        Came {
+            answer: report.answer,
+            read: report.read,
+            written: report.written,
+            out,
+            state: mirror,
+        }
+    }
+
+    fn read_proved(&mut self, input: &[u8], allowance: usize, room: usize) -> Came {
+        let mut out = vec![FILL; room];
+        let report = self.proved.read(input, allowance, &mut out);
+        Came {
+            answer: report.answer,
+            read: report.read,
+            written: report.written,
+            out,
+            state: Some(self.proved),
+        }
+    }
+
+    /// Whether a reading call came back the same: numbers, the whole output
+    /// and the state. A refused state is the same if every field is as it
+    /// came; another one if the fields are that the rules look at, and after a
+    /// start no list is left where one was gathered.
+    fn same(&self, plain: &Came, proved: &Came) -> bool {
+        let numbers = |came: &Came| (came.answer, came.read, came.written);
+        if numbers(plain) != numbers(proved) || plain.out != proved.out {
+            return false;
+        }
+        let Some(expected) = &plain.state else {
+            return false;
+        };
+        if plain.answer == plain_reader::STATE_REFUSED {
+            return *expected == self.proved;
+        }
+        let as_plain = mirror::plain(&self.proved).map(|state| states::normal(&state));
+        mirror::normal(expected) == mirror::normal(&self.proved)
+            && as_plain == self.plain.as_ref().map(states::normal)
+            && (!self.started || mirror::is_cleared(&self.proved))
+    }
+}
+
+/// The mirror of the plain state that these bytes have left. `image` is the
+/// command of the image that was waited for before, if one was.
+fn left(before: &State, image: u8, bytes: &[u8], state: &State) -> Option<Mirror> {
+    let thirty = match state.waiting {
+        Waiting::Image { units: 30, .. } => mirror::image_command(before, image, bytes),
+        _ => 0,
+    };
+    mirror::mirror(state, thirty)
+}
+
+impl Came {
+    fn from_start(answer: u8, state: Option<Mirror>) -> Came {
+        Came {
+            answer,
+            read: 0,
+            written: 0,
+            out: Vec::new(),
+            state,
+        }
+    }
+}

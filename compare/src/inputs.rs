@@ -1,0 +1,67 @@
+//! Inputs to measure with, of about so many bytes, always the same.
+
+use crate::random::Random;
+
+/// The names of the inputs.
+pub const NAMES: [&str; 4] = ["letters", "text", "images", "card"];
+
+/// A slot card: two lines with seven tab stops.
+const CARD: &[u8] = b"\x1BD\x0A\x14\x1E\x28\x32\x3C\x46\x00\
+    SLOT\t1\t2\t3\t4\t5\t6\t7\r\n\
+    STATE\tLOCKED\tLOCKED\tLOCKED\tRELEASED\tLOCKED\tLOCKED\tLOCKED\r\n\x0C";
+
+/// The input of this name, at least so long, and not cut inside a command.
+pub fn input(name: &str, length: usize) -> Option<Vec<u8>> {
+    let add: fn(&mut Random, &mut Vec<u8>) = match name {
+        "letters" => line_of_letters,
+        "text" => line_of_text,
+        "images" => line_of_images,
+        "card" => |_, to| to.extend(CARD),
+        _ => return None,
+    };
+    let mut random = Random::new(300);
+    let mut bytes = Vec::with_capacity(length + 4_096);
+    while bytes.len() < length {
+        add(&mut random, &mut bytes);
+    }
+    Some(bytes)
+}
+
+fn letters(random: &mut Random, count: u64, to: &mut Vec<u8>) {
+    to.extend((0..count).map(|_| random.between(0x20, 0x7E) as u8));
+}
+
+/// Up to 80 letters, CR and LF.
+fn line_of_letters(random: &mut Random, to: &mut Vec<u8>) {
+    let count = random.between(20, 80);
+    letters(random, count, to);
+    to.extend(b"\r\n");
+}
+
+/// Words with tabs and styles between them, CR and LF.
+fn line_of_text(random: &mut Random, to: &mut Vec<u8>) {
+    const STYLES: [&[u8]; 12] = [
+        b"\x1BE", b"\x1BF", b"\x1BG", b"\x1BH", b"\x1B4", b"\x1B5", b"\x1B-1", b"\x1B-0", b"\x1BM",
+        b"\x1BP", b"\x0F", b"\x12",
+    ];
+    for _ in 0..random.between(3, 6) {
+        to.extend(random.pick(&STYLES));
+        let count = random.between(2, 9);
+        letters(random, count, to);
+        to.push(b'\t');
+    }
+    to.extend(b"\r\n");
+    if random.percent(5) {
+        to.extend(b"\x1BD\x08\x10\x18\x20\x28\x30\x38\x40\x00\x1B!\x00\x0C");
+    }
+}
+
+/// One image of up to the width of the paper, CR and a feed of 24/180 inch.
+fn line_of_images(random: &mut Random, to: &mut Vec<u8>) {
+    let (command, widest) = random.pick(&[(b'K', 480), (b'L', 960), (b'Y', 960), (b'Z', 1_920)]);
+    let columns = random.between(widest / 2, widest) as u16;
+    to.extend([0x1B, command]);
+    to.extend(columns.to_le_bytes());
+    to.extend((0..columns).map(|_| random.byte()));
+    to.extend(b"\r\x1BJ\x18");
+}

@@ -1,0 +1,147 @@
+//! Holds the proved reader against the plain one on generated lists of calls
+//! and arbitrary states.
+
+use compare::calls::calls;
+use compare::hold::{difference, outcomes, Case, Tally};
+use compare::random::Random;
+use compare::shortest::shortest;
+use compare::{mirror, mirrors, tell, text};
+use std::process::ExitCode;
+
+const HELP: &str = "\
+compare: holds the proved reader against the plain one
+
+    compare                        the gate run
+    compare --lists N --states N --seed S
+                                   so many lists of calls and arbitrary states
+    compare --replay FILE          one case from a file, with all outcomes
+    compare --help                 this text
+
+Without them, N is 400000 lists and 4000000 states, S is 1. A difference is printed with the
+shortest input found, which --replay reads, and the exit status is then 1.
+";
+
+const DIFFERENCE: u8 = 1;
+const BAD_USAGE: u8 = 2;
+
+/// How much is compared.
+#[derive(Clone, PartialEq, Eq, Debug)]
+struct Amount {
+    lists: u64,
+    states: u64,
+    seed: u64,
+}
+
+enum Task {
+    Help,
+    Run(Amount),
+    Replay(String),
+}
+
+fn main() -> ExitCode {
+    let arguments: Vec<String> = std::env::args_os()
+        .skip(1)
+        .map(|argument| argument.to_string_lossy().into_owned())
+        .collect();
+    let done = task(&arguments).and_then(|task| match task {
+        Task::Help => {
+            print!("{HELP}");
+            Ok(ExitCode::SUCCESS)
+        }
+        Task::Run(amount) => Ok(run(&amount)),
+        Task::Replay(file) => replay(&file),
+    });
+    done.unwrap_or_else(|problem| {
+        eprintln!("compare: {problem}");
+        ExitCode::from(BAD_USAGE)
+    })
+}
+
+fn task(arguments: &[String]) -> Result<Task, String> {
+    let mut amount = Amount {
+        lists: 400_000,
+        states: 4_000_000,
+        seed: 1,
+    };
+    let words: Vec<&str> = arguments.iter().map(String::as_str).collect();
+    match words.as_slice() {
+        ["--help"] => return Ok(Task::Help),
+        ["--replay", file] => return Ok(Task::Replay(file.to_string())),
+        _ => {}
+    }
+    let mut words = words.into_iter();
+    while let Some(option) = words.next() {
+        let number = match option {
+            "--lists" => &mut amount.lists,
+            "--states" => &mut amount.states,
+            "--seed" => &mut amount.seed,
+            _ => return Err(format!("bad argument {option:?}; see compare --help")),
+        };
+        let word = words.next().unwrap_or_default();
+        *number = word
+            .parse()
+            .map_err(|_| format!("{option} takes a number, not {word:?}"))?;
+    }
+    Ok(Task::Run(amount))
+}
+
+/// Compares lists, then states; prints what was done, or the difference.
+fn run(amount: &Amount) -> ExitCode {
+    let mut seeds = Random::new(amount.seed);
+    let mut tally = Tally::default();
+    for list in 1..=amount.lists {
+        let calls = calls(&mut Random::new(seeds.number()));
+        let case = Case { state: None, calls };
+        if difference(&case, &mut tally).is_some() {
+            let before = format!("after {} lists without one", list - 1);
+            return report(&case, &format!("difference in list {list}, {before}"));
+        }
+    }
+    let mut accepted = 0;
+    for state in 1..=amount.states {
+        let case = mirrors::case(&mut Random::new(seeds.number()));
+        let plain = case.state.as_ref().and_then(mirror::plain);
+        accepted += u64::from(plain.is_some_and(|state| state.accepted()));
+        if difference(&case, &mut tally).is_some() {
+            let before = format!("after {} lists and {}", amount.lists, state - 1);
+            let head = format!("difference in state {state}, {before} states without one");
+            return report(&case, &head);
+        }
+    }
+    println!(
+        "compare: no difference in {} lists of calls and {} states, {accepted} of them accepted; \
+         {} calls, {} bytes read",
+        amount.lists, amount.states, tally.calls, tally.bytes
+    );
+    ExitCode::SUCCESS
+}
+
+/// Prints the shortest case that differs and what came back.
+fn report(case: &Case, head: &str) -> ExitCode {
+    let short = shortest(case);
+    println!("compare: {head}");
+    println!("the shortest input found:\n{}", text::text(&short));
+    if let Some(found) = difference(&short, &mut Tally::default()) {
+        print!("{}", tell::difference(&found));
+    }
+    ExitCode::from(DIFFERENCE)
+}
+
+/// Runs one case and prints what both readers come back with from each call.
+fn replay(file: &str) -> Result<ExitCode, String> {
+    let text = std::fs::read_to_string(file).map_err(|error| format!("{file}: {error}"))?;
+    let case = text::case(&text).map_err(|problem| format!("{file}: {problem}"))?;
+    for (index, (plain, proved)) in outcomes(&case).iter().enumerate() {
+        print!("call {}:\n{}", index + 1, tell::both(plain, proved));
+    }
+    match difference(&case, &mut Tally::default()) {
+        None => {
+            println!("no difference");
+            Ok(ExitCode::SUCCESS)
+        }
+        Some(found) => {
+            print!("difference at {}", tell::difference(&found));
+            Ok(ExitCode::from(DIFFERENCE))
+        }
+    }
+}

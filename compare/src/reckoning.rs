@@ -1,0 +1,331 @@
+//! The reckoning of exact places: for each letter and image byte printed, its
+//! place as what the last setting command set plus the moves done since.
+//!
+//! It is fed the calls in order: a start's settings; of a reading call the
+//! input and the count of bytes read. The plain reader is run over the same
+//! bytes, one at a time, on a state kept for that alone. Of its state nothing
+//! is looked at, and of the records it writes only
+//! - whether there is a NO: the command, stop, letter or column is passed over;
+//! - whether there is a TX or IM: the letter or column is placed;
+//! - whether there is an LN, and its byte: an automatic line falls before a
+//!   letter, VT goes to a stop or feeds a page, how many pages turn.
+//!
+//! Which stop HT or VT takes is found from the lists and places kept here.
+
+use crate::calls::Call;
+use crate::received::{Received, Receiving};
+use crate::settings::Settings;
+use plain_reader::State;
+
+/// A letter or image byte that the rules print.
+#[derive(Clone, Copy, PartialEq, Eq, Debug)]
+pub struct Printed {
+    /// The TX or IM record that is due.
+    pub record: [u8; 14],
+    /// The exact place, in units.
+    pub across: i64,
+    pub down: i64,
+    /// Whether left <= across, and across + advance <= right.
+    pub inside: bool,
+}
+
+/// An exact place: what was set last, and the moves since.
+#[derive(Clone, Copy, Debug, Default)]
+struct Exact {
+    set: i64,
+    moves: i64,
+}
+
+impl Exact {
+    fn at(self) -> i64 {
+        self.set + self.moves
+    }
+
+    fn set(&mut self, place: i64) {
+        *self = Exact {
+            set: place,
+            moves: 0,
+        };
+    }
+}
+
+/// What the rules' step over one byte tells.
+#[derive(Default)]
+struct Learnt {
+    passed_over: bool,
+    placed: bool,
+    pages: Option<u8>,
+}
+
+pub struct Reckoning {
+    steps: State,
+    receiving: Receiving,
+    settings: Settings,
+    across: Exact,
+    down: Exact,
+    pub printed: Vec<Printed>,
+}
+
+impl Reckoning {
+    /// Before any call: as after a refused start.
+    pub fn new() -> Reckoning {
+        Reckoning {
+            steps: plain_reader::start(0, false).1,
+            receiving: Receiving::Fresh,
+            settings: Settings::of_start(0, false),
+            across: Exact::default(),
+            down: Exact::default(),
+            printed: Vec::new(),
+        }
+    }
+
+    /// A start, accepted or refused, begins anew; what is printed stays.
+    pub fn start(&mut self, dots: u32, auto_feed: bool) {
+        self.steps = plain_reader::start(dots, auto_feed).1;
+        self.receiving = Receiving::Fresh;
+        self.settings = Settings::of_start(dots, auto_feed);
+        self.across = Exact::default();
+        self.down = Exact::default();
+    }
+
+    /// A reading call that read so many of its first bytes.
+    pub fn read(&mut self, input: &[u8], read: usize) {
+        for &byte in &input[..read] {
+            let learnt = self.step(byte);
+            let received = self.receiving.take(byte, self.settings.upper_codes_print);
+            if let Some(received) = received {
+                self.reckon(&received, &learnt);
+            }
+        }
+    }
+
+    /// A call, and how many bytes its answer says were read.
+    pub fn call(&mut self, call: &Call, read: usize) {
+        match call {
+            Call::Start { dots, auto_feed } => self.start(*dots, *auto_feed),
+            Call::Read { input, .. } => self.read(input, read),
+        }
+    }
+
+    fn step(&mut self, byte: u8) -> Learnt {
+        let mut out = [0; 28];
+        let report = plain_reader::read(&mut self.steps, &[byte], 1, &mut out);
+        let mut learnt = Learnt::default();
+        for record in out[..report.written].chunks_exact(14) {
+            match &record[..2] {
+                b"NO" => learnt.passed_over = true,
+                b"LN" => learnt.pages = Some(record[6]),
+                b"TX" | b"IM" => learnt.placed = true,
+                _ => {}
+            }
+        }
+        learnt
+    }
+
+    fn reckon(&mut self, received: &Received, learnt: &Learnt) {
+        match *received {
+            Received::Letter(letter) => return self.letter(letter, learnt),
+            Received::Column(second, byte) => return self.column(second, byte, learnt),
+            _ => {}
+        }
+        if learnt.passed_over {
+            return;
+        }
+        match received {
+            Received::Control(code) => self.control(*code, learnt),
+            Received::Escape(second, arguments) => self.escape(*second, arguments, learnt),
+            Received::Stop(list, byte) => self.settings.stop(*list, *byte),
+            Received::EndOfList(list) => self.settings.end_of_list(*list),
+            Received::Letter(_) | Received::Column(..) => {}
+        }
+    }
+
+    /// A letter: after its automatic line, if any; placed, then moved past.
+    fn letter(&mut self, letter: u8, learnt: &Learnt) {
+        if learnt.pages.is_some() {
+            self.line_feed(learnt);
+        }
+        if !learnt.placed {
+            return;
+        }
+        let advance = self.settings.advance();
+        let mut record = self.print(*b"TX", letter, advance);
+        let style = self.settings.style().to_le_bytes();
+        record[7] = self.settings.font;
+        record[8..10].copy_from_slice(&style);
+        record[10] = self.settings.country;
+        self.add(record, advance);
+    }
+
+    fn column(&mut self, second: u8, byte: u8, learnt: &Learnt) {
+        if !learnt.placed {
+            return;
+        }
+        let units = match second {
+            b'K' => 60,
+            b'Z' => 15,
+            _ => 30,
+        };
+        let record = self.print(*b"IM", byte, units);
+        self.add(record, units);
+    }
+
+    /// A record at the exact place: mark, column, row, byte and advance.
+    fn print(&self, mark: [u8; 2], byte: u8, advance: i64) -> [u8; 14] {
+        let column = dot(self.across.at(), self.settings.dots.0);
+        let row = dot(self.down.at(), self.settings.dots.1);
+        let mut record = [0; 14];
+        record[..2].copy_from_slice(&mark);
+        record[2..4].copy_from_slice(&column.to_le_bytes());
+        record[4..6].copy_from_slice(&row.to_le_bytes());
+        record[6] = byte;
+        record[12..].copy_from_slice(&(advance as u16).to_le_bytes());
+        record
+    }
+
+    fn add(&mut self, record: [u8; 14], advance: i64) {
+        let across = self.across.at();
+        self.printed.push(Printed {
+            record,
+            across,
+            down: self.down.at(),
+            inside: self.settings.left <= across && across + advance <= self.settings.right,
+        });
+        self.across.moves += advance;
+    }
+
+    /// LF: a line more, or a new page's top.
+    fn line_feed(&mut self, learnt: &Learnt) {
+        self.settings.so = false;
+        self.across.set(self.settings.left);
+        match learnt.pages {
+            Some(1) => self.down.set(0),
+            _ => self.down.moves += self.settings.line,
+        }
+    }
+
+    fn carriage_return(&mut self, learnt: &Learnt) {
+        self.across.set(self.settings.left);
+        if self.settings.auto_feed {
+            self.line_feed(learnt);
+        }
+    }
+
+    fn form_feed(&mut self) {
+        self.settings.so = false;
+        self.across.set(self.settings.left);
+        self.down.set(0);
+    }
+
+    fn control(&mut self, code: u8, learnt: &Learnt) {
+        match code {
+            8 => self.across.moves -= self.settings.advance(),
+            9 => self.horizontal_tab(),
+            10 => self.line_feed(learnt),
+            11 => self.vertical_tab(learnt),
+            12 => self.form_feed(),
+            13 => self.carriage_return(learnt),
+            _ => self.settings.control(code),
+        }
+    }
+
+    /// HT, done: to the first stop right of the place.
+    fn horizontal_tab(&mut self) {
+        let (left, width) = (self.settings.left, self.settings.column_width());
+        let here = self.across.at();
+        let mut stops = self.settings.columns.iter();
+        if let Some(stop) = stops.find(|&column| left + column * width > here) {
+            self.across.set(left + stop * width);
+        }
+    }
+
+    /// VT: an LF, a CR, a feed to the first stop below the place, or an FF.
+    fn vertical_tab(&mut self, learnt: &Learnt) {
+        self.settings.so = false;
+        let here = self.down.at();
+        let Some(rows) = &self.settings.rows else {
+            return self.line_feed(learnt);
+        };
+        if rows.is_empty() {
+            return self.carriage_return(learnt);
+        }
+        match rows.iter().find(|&&row| row > here) {
+            Some(&row) if learnt.pages == Some(0) => {
+                self.down.set(row);
+                self.across.set(self.settings.left);
+            }
+            _ => self.form_feed(),
+        }
+    }
+
+    fn escape(&mut self, second: u8, arguments: &[u8], learnt: &Learnt) {
+        let number = |at: usize| i64::from(arguments.get(at).copied().unwrap_or(0));
+        let width = self.settings.column_width();
+        match second {
+            b'@' => self.initialize(),
+            b'J' => {
+                let turned = i64::from(learnt.pages.unwrap_or(0)) * self.settings.edge();
+                self.down.moves += 20 * number(0) - turned;
+            }
+            b'C' => {
+                self.settings.page = match number(0) {
+                    0 => 3_600 * number(1),
+                    lines => lines * self.settings.line,
+                };
+                self.settings.skip = 0;
+                self.down.set(0);
+            }
+            b'l' => {
+                self.settings.left = number(0) * width;
+                self.across.set(self.settings.left);
+            }
+            b'Q' => {
+                self.settings.right = number(0) * width;
+                self.across.set(self.settings.left);
+            }
+            b'$' => {
+                let places = number(0) + 256 * number(1);
+                self.across.set(self.settings.left + 60 * places);
+            }
+            b'\\' => self.across.moves += self.signed_move(number(0) + 256 * number(1)),
+            _ => self.settings.escape(second, arguments),
+        }
+    }
+
+    /// ESC \: two's complement of 16 bits, by the quality in force.
+    fn signed_move(&self, number: i64) -> i64 {
+        let signed = if number < 0x8000 {
+            number
+        } else {
+            number - 0x1_0000
+        };
+        signed * if self.settings.draft { 30 } else { 20 }
+    }
+
+    fn initialize(&mut self) {
+        let kept = (self.settings.dots, self.settings.auto_feed);
+        self.settings = Settings::power_on(kept.0, kept.1);
+        self.across.set(0);
+        self.down.set(0);
+    }
+}
+
+impl Default for Reckoning {
+    fn default() -> Self {
+        Reckoning::new()
+    }
+}
+
+/// The rounding rule.
+fn dot(units: i64, per_inch: i64) -> u16 {
+    (units * per_inch + 1_800).div_euclid(3_600) as u16
+}
+
+/// What is printed over a list of calls, given the bytes read by each.
+pub fn expected(calls: &[Call], reads: &[usize]) -> Vec<Printed> {
+    let mut reckoning = Reckoning::new();
+    for (call, read) in calls.iter().zip(reads) {
+        reckoning.call(call, *read);
+    }
+    reckoning.printed
+}

@@ -1,0 +1,319 @@
+//! Arbitrary states: reached or made up inside the bounds, then with one or a
+//! few fields set at, inside and outside their bounds.
+
+use crate::generate;
+use crate::random::Random;
+use plain_reader::{read, start, State, Stops, Waiting};
+
+const WIDTH: u64 = 28_800;
+const LONGEST: u64 = 79_200;
+const LISTED: &[u8] = b"3A+JNlQpSxWw-%tRqk !$\\KLYZC";
+
+/// A state that the plain reader reaches on a generated input.
+pub fn reached(random: &mut Random) -> State {
+    let dots = random.pick(&[300, 203]);
+    let (_, mut state) = start(dots, random.flag());
+    let phrases = random.below(30);
+    let input = generate::input(random, phrases);
+    let cut = random.between(input.len() as u64 / 2, input.len() as u64);
+    let mut out = vec![0; 28 * (input.len() + 1)];
+    read(&mut state, &input, cut as usize, &mut out);
+    state
+}
+
+/// A state inside the bounds, which no input need reach.
+pub fn inside(random: &mut Random) -> State {
+    let (_, mut state) = start(random.pick(&[300, 203]), random.flag());
+    state.left = random.below(WIDTH) as u32;
+    state.right = random.between(u64::from(state.left) + 1, WIDTH) as u32;
+    state.across = between(random, state.left, state.right);
+    state.page_length = between(random, 3_600, LONGEST as u32);
+    state.skip = match random.below(3) {
+        0 => 0,
+        1 => state.page_length - 3_600,
+        _ => random.below(u64::from(state.page_length) - 3_599) as u32,
+    };
+    state.down = random.below(u64::from(state.page_length - state.skip)) as u32;
+    state.line_amount = random.below(5_101) as u32;
+    state.pitch = random.pick(&[10, 12, 15]);
+    let widest = random.pick(&[8, 128]);
+    state.spacing = random.below(widest) as u8;
+    state.country = random.pick(&[0, 1, 13, 0x40]);
+    state.character_style = random.below(4) as u8;
+    state.font = random.byte();
+    for _ in 0..random.below(12) {
+        toggle(random, &mut state);
+    }
+    state.horizontal = ascending(random, 32, 255);
+    state.vertical = ascending(random, 16, LONGEST - 1);
+    state.vertical_never_set = random.flag();
+    if state.vertical_never_set {
+        state.vertical.count = 0;
+    }
+    if random.flag() {
+        await_inside(random, &mut state);
+    }
+    state
+}
+
+/// A state of any sort; some are accepted, many are not.
+pub fn arbitrary(random: &mut Random) -> State {
+    let mut state = match random.below(2) {
+        0 => reached(random),
+        _ => inside(random),
+    };
+    let changes = random.pick(&[0, 1, 1, 1, 2, 2, 3, 4, 6]);
+    for _ in 0..changes {
+        change(random, &mut state);
+    }
+    state
+}
+
+/// The state with the parts that no rule looks at made 0: slots past a count,
+/// a gathering place while no such list is gathered, an argument not given.
+pub fn normal(state: &State) -> State {
+    let mut state = state.clone();
+    clear_past_count(&mut state.horizontal);
+    clear_past_count(&mut state.vertical);
+    clear_past_count(&mut state.gathered_horizontal);
+    clear_past_count(&mut state.gathered_vertical);
+    if !matches!(state.waiting, Waiting::HorizontalStops { .. }) {
+        state.gathered_horizontal = no_stops();
+    }
+    if !matches!(state.waiting, Waiting::VerticalStops { .. }) {
+        state.gathered_vertical = no_stops();
+    }
+    if let Waiting::Arguments {
+        given: 0, first, ..
+    } = &mut state.waiting
+    {
+        *first = 0;
+    }
+    state
+}
+
+fn no_stops<const N: usize>() -> Stops<N> {
+    Stops {
+        stops: [0; N],
+        count: 0,
+    }
+}
+
+fn clear_past_count<const N: usize>(list: &mut Stops<N>) {
+    let count = usize::from(list.count);
+    list.stops.iter_mut().skip(count).for_each(|stop| *stop = 0);
+}
+
+fn between(random: &mut Random, first: u32, last: u32) -> u32 {
+    match random.below(4) {
+        0 => first,
+        1 => last,
+        _ => random.between(u64::from(first), u64::from(last)) as u32,
+    }
+}
+
+/// A number at, beside, far from or between two bounds.
+fn near(random: &mut Random, lowest: u32, highest: u32) -> u32 {
+    match random.below(10) {
+        0 => lowest.wrapping_sub(1),
+        1 => highest.wrapping_add(1),
+        2 => random.pick(&[0, 1, u32::MAX, u32::MAX - 1, 65_536, 1 << 31]),
+        3 => lowest,
+        4 => highest,
+        _ => between(random, lowest, highest.max(lowest)),
+    }
+}
+
+/// Sets one field, or one group of fields, to some value.
+pub fn change(random: &mut Random, state: &mut State) {
+    let edge = state.page_length.saturating_sub(state.skip);
+    match random.below(24) {
+        0 => state.resolution = random.pick(&[300, 203, 200, 0, 299, 204, 65_836]),
+        1 => state.across = near(random, state.left, state.right),
+        2 => state.down = near(random, 0, edge.saturating_sub(1)),
+        3 => state.left = near(random, 0, state.across),
+        4 => state.right = near(random, state.across.max(1), WIDTH as u32),
+        5 => state.left = near(random, 0, state.right.saturating_sub(1)),
+        6 => state.page_length = near(random, 3_600, LONGEST as u32),
+        7 => state.skip = near(random, 0, state.page_length.saturating_sub(3_600)),
+        8 => state.line_amount = near(random, 0, 5_100),
+        9 => state.pitch = random.pick(&[10, 12, 15, 10, 12, 15, 0, 9, 11, 13, 14, 16, 255]),
+        10 => state.character_style = random.pick(&[0, 1, 2, 3, 4, 255]),
+        11 => state.country = random.pick(&[0, 7, 12, 13, 0x40, 14, 0x3F, 0x41, 255]),
+        12 => state.spacing = random.pick(&[0, 1, 64, 126, 127, 128, 129, 255]),
+        13 => state.font = random.byte(),
+        14 => toggle(random, state),
+        15 => change_never_set(random, state),
+        16 => change_list(random, &mut state.horizontal, 255),
+        17 => change_list(random, &mut state.vertical, LONGEST - 1),
+        18 => change_list(random, &mut state.gathered_horizontal, 255),
+        19 => change_list(random, &mut state.gathered_vertical, LONGEST - 1),
+        20 => await_arguments(random, state),
+        21 => await_list(random, state),
+        22 => await_image(random, state),
+        _ => state.waiting = random.pick(&[Waiting::Nothing, Waiting::SecondByte]),
+    }
+}
+
+fn toggle(random: &mut Random, state: &mut State) {
+    let flag = match random.below(16) {
+        0 => &mut state.automatic_line_feed,
+        1 => &mut state.proportional,
+        2 => &mut state.reduced,
+        3 => &mut state.shift_out,
+        4 => &mut state.double_width,
+        5 => &mut state.double_height,
+        6 => &mut state.bold,
+        7 => &mut state.double_strike,
+        8 => &mut state.italic,
+        9 => &mut state.underline,
+        10 => &mut state.superscript,
+        11 => &mut state.subscript,
+        12 => &mut state.italic_table,
+        13 => &mut state.download_set,
+        14 => &mut state.draft,
+        _ => &mut state.upper_codes_print,
+    };
+    *flag = !*flag;
+}
+
+/// Says of the vertical stops that they were never set, even of some, or that
+/// they were set, even to none.
+fn change_never_set(random: &mut Random, state: &mut State) {
+    state.vertical_never_set = !state.vertical_never_set;
+    if random.flag() {
+        state.vertical = ascending(random, 16, LONGEST - 1);
+    }
+}
+
+/// A list inside its bounds, of any length up to the most.
+fn ascending<const N: usize>(random: &mut Random, most: u64, highest: u64) -> Stops<N> {
+    let mut list = no_stops();
+    let wanted = random.pick(&[0, 1, 3, 8, most - 1, most]).min(most);
+    let mut last = 0;
+    for slot in 0..wanted {
+        let room = (highest - last) / (wanted - slot);
+        last = random.between(last + 1, last + room.max(1)).min(highest);
+        list.stops[slot as usize] = last as u32;
+    }
+    list.count = wanted as u8;
+    list
+}
+
+/// Sets a list's count or one of its stops, or makes it a new one.
+fn change_list<const N: usize>(random: &mut Random, list: &mut Stops<N>, highest: u64) {
+    let count = usize::from(list.count).min(N);
+    let slot = random.below(count.max(1) as u64) as usize;
+    let other = list.stops[random.below(N as u64) as usize];
+    match random.below(12) {
+        0 => list.count = random.pick(&[N as u8, N as u8 + 1, 255, 128, 33, 17]),
+        1 => list.count = list.count.wrapping_add(1),
+        2 => list.count = list.count.saturating_sub(1),
+        3 => list.stops[slot] = near(random, 1, highest as u32),
+        4 => list.stops[slot] = other,
+        5 => list.stops[slot] = list.stops[slot].wrapping_add(1),
+        6 => list.stops[count.saturating_sub(1)] = near(random, 1, highest as u32),
+        7 => list.stops[N - 1] = random.number() as u32,
+        8 => list.stops.swap(slot, 0),
+        9 => list.stops[count.saturating_sub(1)] = (highest + random.below(2)) as u32,
+        _ => *list = ascending(random, N as u64, highest),
+    }
+}
+
+/// Arguments of a listed or any other command, some of them given.
+fn await_arguments(random: &mut Random, state: &mut State) {
+    let command = match random.below(5) {
+        0 => random.byte(),
+        1 => random.pick(b"BD@E0&*\x0F\x1B"),
+        _ => random.pick(LISTED),
+    };
+    let two = b"$\\KLYZC".contains(&command);
+    let given = match random.below(6) {
+        0 => random.pick(&[1, 2, 3, 255]),
+        1..=3 if two => 1,
+        _ => 0,
+    };
+    state.waiting = Waiting::Arguments {
+        command,
+        given,
+        first: if random.flag() { 0 } else { random.byte() },
+    };
+}
+
+/// A list being gathered, whose last byte is at, above or below its last stop.
+fn await_list(random: &mut Random, state: &mut State) {
+    if random.flag() {
+        if random.flag() {
+            change_list(random, &mut state.gathered_horizontal, 255);
+        }
+        let last = last_stop(&state.gathered_horizontal);
+        state.waiting = Waiting::HorizontalStops {
+            last: beside(random, last),
+        };
+    } else {
+        if random.flag() {
+            change_list(random, &mut state.gathered_vertical, LONGEST - 1);
+        }
+        if random.flag() {
+            state.gathered_vertical = lines(random, state.line_amount);
+        }
+        let line = u64::from(state.line_amount.max(1));
+        let stop = last_stop(&state.gathered_vertical);
+        let last = beside(random, stop.div_ceil(line));
+        state.waiting = Waiting::VerticalStops { last };
+        let count = usize::from(state.gathered_vertical.count);
+        if (1..=16).contains(&count) && random.percent(30) {
+            let reach = u32::from(last).wrapping_mul(state.line_amount);
+            let stop = random.pick(&[reach, reach.wrapping_add(1), reach.wrapping_sub(1)]);
+            state.gathered_vertical.stops[count - 1] = stop;
+        }
+    }
+}
+
+fn last_stop<const N: usize>(list: &Stops<N>) -> u64 {
+    let count = usize::from(list.count).min(N);
+    list.stops[..count].last().map_or(0, |&stop| stop.into())
+}
+
+/// A byte at, above or below a number.
+fn beside(random: &mut Random, number: u64) -> u8 {
+    match random.below(8) {
+        0 => random.byte(),
+        1 => number.saturating_sub(1).min(255) as u8,
+        2 => (number + 1).min(255) as u8,
+        3 => random.between(number.min(255), 255) as u8,
+        _ => number.min(255) as u8,
+    }
+}
+
+/// Vertical stops as ESC B sets them at this line amount.
+fn lines(random: &mut Random, line_amount: u32) -> Stops<16> {
+    let mut list: Stops<16> = ascending(random, 16, 255);
+    for stop in &mut list.stops {
+        *stop = stop.wrapping_mul(line_amount);
+    }
+    list
+}
+
+fn await_image(random: &mut Random, state: &mut State) {
+    state.waiting = Waiting::Image {
+        units: random.pick(&[60, 30, 15, 60, 30, 15, 0, 20, 45, 61, u32::MAX]),
+        columns: random.pick(&[1, 2, 7, 300, 65_534, 65_535, 0, 65_536, u32::MAX]),
+    };
+}
+
+/// Something waited for, inside the bounds.
+fn await_inside(random: &mut Random, state: &mut State) {
+    for _ in 0..20 {
+        match random.below(4) {
+            0 => await_arguments(random, state),
+            1 => await_list(random, state),
+            2 => await_image(random, state),
+            _ => state.waiting = Waiting::SecondByte,
+        }
+        if state.accepted() {
+            return;
+        }
+    }
+    state.waiting = Waiting::Nothing;
+}

@@ -1,0 +1,96 @@
+//! Cases as text, to be read and replayed: one line for each call, and before
+//! them the state to begin from, if it is not a start.
+//!
+//! ```text
+//! start DOTS on|off           a start, with or without automatic line feed
+//! state                       from the power-on state of 300 dots,
+//! set FIELD NUMBER            but with this field so
+//! read ALLOWANCE ROOM HEX..   a reading call: allowance, output length, input
+//! ```
+
+use crate::calls::Call;
+use crate::fields;
+use crate::hold::Case;
+use ierbulosc::State as Mirror;
+use std::fmt::Write;
+
+/// The case as text.
+pub fn text(case: &Case) -> String {
+    let mut text = String::new();
+    if let Some(state) = &case.state {
+        text.push_str("state\n");
+        let (_, power_on) = Mirror::start(300, false);
+        for (name, number, _) in fields::differing(state, &power_on) {
+            let _ = writeln!(text, "set {name} {number}");
+        }
+    }
+    for call in &case.calls {
+        text.push_str(&call_text(call));
+        text.push('\n');
+    }
+    text
+}
+
+fn call_text(call: &Call) -> String {
+    match call {
+        Call::Start { dots, auto_feed } => {
+            let feed = if *auto_feed { "on" } else { "off" };
+            format!("start {dots} {feed}")
+        }
+        Call::Read {
+            input,
+            allowance,
+            room,
+        } => {
+            let mut text = format!("read {allowance} {room}");
+            for byte in input {
+                let _ = write!(text, " {byte:02X}");
+            }
+            text
+        }
+    }
+}
+
+/// The case that a text tells, or the line that it does not.
+pub fn case(text: &str) -> Result<Case, String> {
+    let mut case = Case {
+        state: None,
+        calls: Vec::new(),
+    };
+    for line in text.lines().filter(|line| !line.trim().is_empty()) {
+        take_line(&mut case, line).ok_or_else(|| format!("not a line of a case: {line}"))?;
+    }
+    Ok(case)
+}
+
+fn take_line(case: &mut Case, line: &str) -> Option<()> {
+    let words: Vec<&str> = line.split_whitespace().collect();
+    match *words.as_slice() {
+        ["state"] if case.state.is_none() && case.calls.is_empty() => {
+            case.state = Some(Mirror::start(300, false).1);
+        }
+        ["set", name, number] if case.calls.is_empty() => {
+            fields::set(case.state.as_mut()?, name, number.parse().ok()?)?;
+        }
+        ["start", dots, feed] => case.calls.push(Call::Start {
+            dots: dots.parse().ok()?,
+            auto_feed: match feed {
+                "on" => true,
+                "off" => false,
+                _ => return None,
+            },
+        }),
+        ["read", allowance, room, ref bytes @ ..] => case.calls.push(Call::Read {
+            input: bytes.iter().map(|byte| hex(byte)).collect::<Option<_>>()?,
+            allowance: allowance.parse().ok()?,
+            room: room.parse().ok()?,
+        }),
+        _ => return None,
+    }
+    Some(())
+}
+
+fn hex(byte: &str) -> Option<u8> {
+    let digits = byte.len() == 2 && byte.bytes().all(|digit| digit.is_ascii_hexdigit());
+    digits.then(|| u8::from_str_radix(byte, 16).ok()).flatten()
+}

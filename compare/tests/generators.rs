@@ -1,0 +1,145 @@
+//! What the generators reach.
+
+use compare::calls::{calls, run, Call, FILL};
+use compare::generate;
+use compare::random::Random;
+use compare::shrink::shrink;
+use compare::states::{arbitrary, inside, normal, reached};
+use plain_reader::{read, start};
+use std::collections::{BTreeMap, BTreeSet};
+
+#[test]
+fn all_answers_records_and_reasons_occur() {
+    let mut answers = BTreeSet::new();
+    let mut records = BTreeMap::new();
+    for seed in 0..2_000 {
+        let outcomes = run(&calls(&mut Random::new(seed)));
+        for outcome in outcomes {
+            answers.insert(outcome.answer);
+            let (written, rest) = outcome.out.split_at(outcome.written);
+            assert!(rest.iter().all(|&byte| byte == FILL));
+            for record in written.chunks_exact(14) {
+                let mark = String::from_utf8_lossy(&record[..2]).into_owned();
+                let key = match mark.as_str() {
+                    "NO" => format!("NO {}", record[8]),
+                    "LN" => format!("LN {}", record[6]),
+                    _ => mark,
+                };
+                *records.entry(key).or_insert(0) += 1;
+            }
+        }
+    }
+    assert_eq!(answers, BTreeSet::from([0, 1, 2, 3]));
+    println!("{records:?}");
+    let kinds = [
+        "CL", "IM", "LN 0", "LN 1", "LN 2", "LN 255", "NO 1", "NO 2", "NO 3", "NO 4", "NO 5", "TX",
+    ];
+    for kind in kinds {
+        assert!(records.get(kind) > Some(&30), "{kind}: {records:?}");
+    }
+}
+
+#[test]
+fn a_fair_part_of_the_states_is_accepted() {
+    let mut random = Random::new(1);
+    let states: Vec<_> = (0..20_000).map(|_| arbitrary(&mut random)).collect();
+    let accepted = states.iter().filter(|state| state.accepted()).count();
+    println!("{accepted} of {} accepted", states.len());
+    assert!((6_000..12_000).contains(&accepted), "{accepted} accepted");
+}
+
+#[test]
+fn reached_and_inside_states_are_accepted() {
+    let mut random = Random::new(2);
+    for _ in 0..5_000 {
+        assert!(reached(&mut random).accepted());
+        let state = inside(&mut random);
+        assert!(state.accepted(), "{state:?}");
+        assert!(normal(&state).accepted());
+    }
+}
+
+#[test]
+fn any_state_is_read_or_left_alone() {
+    let mut random = Random::new(3);
+    for _ in 0..20_000 {
+        let before = arbitrary(&mut random);
+        let mut state = before.clone();
+        let phrases = random.below(12);
+        let input = generate::input(&mut random, phrases);
+        let room = random.below(28 * input.len() as u64 + 28) as usize;
+        let mut out = vec![FILL; room];
+        let report = read(&mut state, &input, usize::MAX, &mut out);
+        if before.accepted() {
+            assert!(matches!(report.answer, 0 | 2));
+            assert!(state.accepted(), "{before:?}\n{input:02X?}\n{state:?}");
+        } else {
+            assert_eq!((report.answer, report.read, report.written), (4, 0, 0));
+            assert_eq!(state, before);
+        }
+        assert!(out[report.written..].iter().all(|&byte| byte == FILL));
+    }
+}
+
+/// States that hold vertical stops which were never set, and nothing else wrong.
+#[test]
+fn stops_never_set_occur() {
+    let mut random = Random::new(5);
+    let states = (0..20_000).map(|_| arbitrary(&mut random));
+    let such = states.filter(|state| {
+        let mut set = state.clone();
+        set.vertical_never_set = false;
+        state.vertical_never_set && set.accepted() && !state.accepted()
+    });
+    assert!(such.count() > 100);
+}
+
+/// Parts that no rule looks at make no difference to what is read.
+#[test]
+fn unseen_parts_make_no_difference() {
+    let mut random = Random::new(4);
+    for _ in 0..10_000 {
+        let mut state = arbitrary(&mut random);
+        let mut plain = normal(&state);
+        assert_eq!(state.accepted(), plain.accepted());
+        let input = generate::input(&mut random, 8);
+        let mut outs = [vec![0; 2_000], vec![0; 2_000]];
+        let report = read(&mut state, &input, 500, &mut outs[0]);
+        assert_eq!(report, read(&mut plain, &input, 500, &mut outs[1]));
+        assert_eq!(outs[0], outs[1]);
+        assert_eq!(normal(&state), normal(&plain));
+    }
+}
+
+#[test]
+fn shrinking_keeps_what_fails() {
+    let passes_page = |list: &[Call]| {
+        let outcomes = run(list);
+        outcomes.iter().any(|outcome| {
+            let mut records = outcome.out[..outcome.written].chunks_exact(14);
+            records.any(|record| &record[..2] == b"LN" && record[6] == 1)
+        })
+    };
+    let list = (0..)
+        .map(|seed| calls(&mut Random::new(seed)))
+        .find(|list| list.len() > 10 && passes_page(list))
+        .unwrap();
+    let short = shrink(&list, &passes_page, 5_000);
+    let plain = Call::Start {
+        dots: 300,
+        auto_feed: false,
+    };
+    assert!(passes_page(&short));
+    assert_eq!((short.len(), &short[0]), (2, &plain));
+    let Call::Read { input, .. } = &short[1] else {
+        panic!("a reading call is left");
+    };
+    assert!(input.len() <= 8, "{input:02X?}");
+}
+
+#[test]
+fn starts_are_accepted_states() {
+    for dots in [300, 203, 0] {
+        assert!(start(dots, true).1.accepted());
+    }
+}

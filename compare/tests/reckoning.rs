@@ -1,0 +1,64 @@
+//! The reckoning agrees with the plain reader on generated lists of calls.
+
+use compare::calls::{calls, run, Call};
+use compare::random::Random;
+use compare::reckoning::expected;
+use compare::shrink::shrink;
+
+const LISTS: u64 = 5_000;
+
+/// The TX and IM records of all calls, joined.
+fn placed(calls: &[Call]) -> (Vec<[u8; 14]>, Vec<usize>) {
+    let outcomes = run(calls);
+    let reads = outcomes.iter().map(|outcome| outcome.read).collect();
+    let mut records = Vec::new();
+    for outcome in &outcomes {
+        assert_ne!(outcome.answer, 4);
+        let written = outcome.out[..outcome.written].chunks_exact(14);
+        let placed = written.filter(|record| matches!(&record[..2], b"TX" | b"IM"));
+        records.extend(placed.map(|record| <[u8; 14]>::try_from(record).unwrap()));
+    }
+    (records, reads)
+}
+
+/// Whether the reckoning and the plain reader differ on this list.
+fn differs(calls: &[Call]) -> bool {
+    let (records, reads) = placed(calls);
+    let due = expected(calls, &reads);
+    let same = due.iter().map(|printed| &printed.record).eq(&records);
+    !same || due.iter().any(|printed| !printed.inside)
+}
+
+#[test]
+fn agrees_on_generated_calls() {
+    let mut printed = 0;
+    for seed in 0..LISTS {
+        let list = calls(&mut Random::new(seed));
+        if differs(&list) {
+            let short = shrink(&list, &differs, 3_000);
+            panic!("seed {seed}: {short:02X?}");
+        }
+        printed += placed(&list).0.len();
+    }
+    assert!(printed > 100_000, "only {printed} letters and image bytes");
+}
+
+#[test]
+fn a_refused_start_begins_anew() {
+    let reading = |input: &[u8]| Call::Read {
+        input: input.to_vec(),
+        allowance: 100,
+        room: 1_000,
+    };
+    let start = |dots| Call::Start {
+        dots,
+        auto_feed: true,
+    };
+    let list = [start(203), reading(b"AB\x1B"), start(204), reading(b"CD")];
+    let (records, reads) = placed(&list);
+    let due = expected(&list, &reads);
+    let columns: Vec<u8> = records.iter().map(|record| record[2]).collect();
+    assert_eq!(columns, [0, 20, 0, 30]);
+    assert!(due.iter().map(|printed| &printed.record).eq(&records));
+    assert_eq!(due[1].across, 360);
+}

@@ -1,0 +1,4 @@
+pub mod Flags
+pub mod RoundTrip
+pub mod StateValue
+pub mod Theorems

@@ -1,0 +1,91 @@
+-- The theorems about the exported calls' definitions, each stated once.
+use Prim.Native.Nat.{ℕ, _+_, _*_, _<_}
+use mathlib.Core.Path.{_≡_, refl, sym, ap, _∙_}
+use mathlib.Core.Bool.{Bool, true, false}
+use mathlib.Core.List.{List}
+use mathlib.Core.Logic.{⊎-elim}
+use lib.ListN.{length}
+use native.Mathlib.Omega.{arith}
+use Rattle.printer.specs.Bounds.{accepted}
+use Rattle.printer.specs.Calls.{numberOf, Run, callOf, readingOf, LentPromise, ExactlyWhen}
+use Rattle.printer.specs.declared.state.Printer.{Printer}
+use Rattle.ierbulosc.specs.Calls.{countsOf, EscpReadPromise, stateReadingOf, stateOutputOf}
+use Rattle.ierbulosc.specs.Packing.{pack}
+use Rattle.ierbulosc.specs.Unpacking.{valid, printerOf, unpack}
+use Rattle.ierbulosc.specs.declared.state.Counts.{Counts}
+use Rattle.ierbulosc.specs.declared.state.State.{State}
+use Rattle.ierbulosc.specs.declared.unpack.Unpacked.{Unpacked}
+use Rattle.printer.proofs.Theorems.{answers, refuses}
+use Rattle.ierbulosc.proofs.RoundTrip.{printer-back, pack-valid, pack-again}
+
+-- the state, found
+abbrev pub found : Printer → Unpacked
+found p = record { valid = true; printer = p }
+
+-- unpacking what packing made gives the state back
+pub unpack-pack : (p : Printer) → unpack (pack p) ≡ found p
+unpack-pack p = cc (printer-back p, pack-valid p)
+
+-- packing what unpacking gave gives the numbers back
+pub pack-unpack : (s : State) → unpack s .valid ≡ true → pack (unpack s .printer) ≡ s
+pack-unpack s e = pack-again s e
+
+-- what unpacking refuses, no state packs to
+pub refused-unpacked : (s : State) → unpack s .valid ≡ false → (p : Printer) → pack p ≡ s → ⊥
+refused-unpacked s e p h =
+    let z : _≡_ {A = Bool} true false = sym (pack-valid p) ∙ ap (λ (t : State). unpack t .valid) h ∙ e in
+    let y : _≡_ {A = ℕ} 0 1 = cc in
+    omega arith
+
+-- a test with its answer as an equation
+known-elim : (P : Type 0) (t : Bool) → (t ≡ true → P) → (t ≡ false → P) → P
+known-elim P true f g = f refl
+known-elim P false f g = g refl
+
+-- a run's answer is 0, 1 or 2
+under-4 : (bytes allowance room : ℕ) (v : Run) → ExactlyWhen bytes allowance room v → numberOf (v .answer) ≡ 4 → ⊥
+under-4 bytes allowance room v h four =
+    ⊎-elim (λ (i : (numberOf (v .answer) ≡ 0) × (v .read ≡ bytes)). omega arith)
+    (λ k. ⊎-elim (λ (i : (numberOf (v .answer) ≡ 1) × (v .read ≡ allowance) × (v .read < bytes)). omega arith)
+    (λ (i : (numberOf (v .answer) ≡ 2) × (v .read < allowance) × (v .read < bytes)
+    × (room < 14 * length (v .records) + 28)). omega arith) k) h
+
+module _ (s : State) (input : List ℕ) (allowance : ℕ) (out : List ℕ) (number : ℕ) (left : State) (counted : Counts)
+    (after : List ℕ) (promise : EscpReadPromise s input allowance out number left counted after) where
+  -- on the numbers of a state, escp_read is the call to which the state is lent, with answer and state as numbers
+  pub read-as-lent : (p : Printer) → unpack s ≡ found p → let v = readingOf p input allowance (length out) in
+      LentPromise p input allowance out (v .report) (v .printer) after × (number ≡ numberOf (v .report .answer))
+      × (left ≡ pack (v .printer)) × (counted ≡ countsOf (v .report .read) (v .report .written))
+  unfolding stateReadingOf stateOutputOf
+  read-as-lent p h =
+      let e : valid s ≡ true = ap (λ (u : Unpacked). u .valid) h in
+      let f : printerOf s ≡ p = ap (λ (u : Unpacked). u .printer) h in (
+        record { gives = refl; state = refl; output = promise .output ∙ rw (e, f) },
+        promise .answer ∙ rw (e, f),
+        promise .state ∙ rw (e, f),
+        promise .counts ∙ rw (e, f),
+      )
+
+  -- on any others it answers 4, and leaves all but the counts as it was; they are 0
+  pub read-refused : unpack s .valid ≡ false
+      → (number ≡ 4) × (left ≡ s) × (counted ≡ countsOf 0 0) × (after ≡ out)
+  unfolding stateReadingOf stateOutputOf
+  read-refused e = (promise .answer ∙ rw e, promise .state ∙ rw e, promise .counts ∙ rw e, promise .output ∙ rw e)
+
+  -- whenever it answers 4, on numbers of no state or on a state outside its bounds, the state and the output stay as they were
+  pub read-4 : number ≡ 4 → (left ≡ s) × (counted ≡ countsOf 0 0) × (after ≡ out)
+  read-4 four =
+      known-elim _ (valid s)
+      (λ e.
+      let p = printerOf s in
+      let lent = read-as-lent p (ap (λ (t : Bool). record { valid = t; printer = p }) e) in
+      known-elim _ (accepted p)
+      (λ a. absurd (under-4 (length input) allowance (length out) (callOf p input allowance (length out))
+      (answers p input allowance (length out) a) (sym (lent .1) ∙ four)))
+      (λ a.
+      let r = refuses p input allowance out a in (
+        lent .2 ∙ ap pack (r .state) ∙ pack-again s e,
+        lent .3 ∙ cc (r .read, r .written),
+        lent .0 .output ∙ r .output,
+      )))
+      (λ e. let r = read-refused e in (r .1, r .2, r .3))

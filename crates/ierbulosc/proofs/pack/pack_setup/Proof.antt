@@ -1,0 +1,13 @@
+-- The flags are cast.
+use borrow.Author.Needs.{needs}
+use Rattle.ierbulosc.proofs.Flags.{as-flag}
+use Rattle.ierbulosc.proofs.pack.pack_setup.Statement.{statement}
+use Rattle.ierbulosc.proofs.pack.pack_setup.Tie as tie
+
+returns : tie.Need-returns
+returns c = simp (as-flag, c .before .before .before .resolution-number .ensures)
+
+pub pack-setup-spec : {M : Type 1} → statement M
+pack-setup-spec =
+    tie.close
+    (tie.spec (λ c κs. search needs) (λ c. search needs) (λ c. search needs) (λ c. search needs) returns)

@@ -1,0 +1,110 @@
+//! The bounds that say what a state of ours is.
+
+use crate::state::{
+    State, Stops, Waiting, LARGEST_LINE, LARGEST_SPACING, LONGEST_PAGE, PAPER_WIDTH, SHORTEST_PAGE,
+};
+
+const HIGHEST_COLUMN: u32 = 255;
+const LOWEST_PLACE_ON_A_PAGE: u32 = LONGEST_PAGE - 1;
+
+impl State {
+    /// Whether the state is inside the bounds; total over all values.
+    pub fn accepted(&self) -> bool {
+        self.places_in_bounds()
+            && self.settings_in_bounds()
+            && self.horizontal.in_bounds(HIGHEST_COLUMN)
+            && self.vertical_stops_in_bounds()
+            && self.waiting_in_bounds()
+    }
+
+    fn places_in_bounds(&self) -> bool {
+        let across = self.left < self.right
+            && self.right <= PAPER_WIDTH
+            && (self.left..=self.right).contains(&self.across);
+        let page = (SHORTEST_PAGE..=LONGEST_PAGE).contains(&self.page_length);
+        let down = self
+            .page_length
+            .checked_sub(self.skip)
+            .is_some_and(|edge| edge >= SHORTEST_PAGE && self.down < edge);
+        across && page && down
+    }
+
+    fn settings_in_bounds(&self) -> bool {
+        matches!(self.resolution, 300 | 203)
+            && matches!(self.pitch, 10 | 12 | 15)
+            && self.line_amount <= LARGEST_LINE
+            && self.spacing <= LARGEST_SPACING
+            && matches!(self.country, 0..=13 | 0x40)
+            && self.character_style <= 3
+    }
+
+    /// Vertical stops that were never set are none.
+    fn vertical_stops_in_bounds(&self) -> bool {
+        let none = self.vertical.count == 0;
+        self.vertical.in_bounds(LOWEST_PLACE_ON_A_PAGE) && (none || !self.vertical_never_set)
+    }
+
+    fn waiting_in_bounds(&self) -> bool {
+        match self.waiting {
+            Waiting::Nothing | Waiting::SecondByte => true,
+            Waiting::Arguments {
+                command,
+                given,
+                first,
+            } => arguments_in_bounds(command, given, first),
+            Waiting::HorizontalStops { last } => self
+                .gathered_horizontal
+                .gathered_in_bounds(HIGHEST_COLUMN, u64::from(last)),
+            Waiting::VerticalStops { last } => self.gathered_vertical.gathered_in_bounds(
+                LOWEST_PLACE_ON_A_PAGE,
+                u64::from(last) * u64::from(self.line_amount),
+            ),
+            Waiting::Image { units, columns } => {
+                matches!(units, 60 | 30 | 15) && (1..=65_535).contains(&columns)
+            }
+        }
+    }
+}
+
+impl<const N: usize> Stops<N> {
+    /// Not too many stops, ascending strictly, from 1 to the highest.
+    fn in_bounds(&self, highest: u32) -> bool {
+        self.stops
+            .get(..usize::from(self.count))
+            .is_some_and(|list| {
+                list.iter().all(|stop| (1..=highest).contains(stop))
+                    && list.windows(2).all(|pair| pair[0] < pair[1])
+            })
+    }
+
+    /// A list being gathered: its last byte, made a stop, is not below its
+    /// last stop.
+    fn gathered_in_bounds(&self, highest: u32, last_byte_as_stop: u64) -> bool {
+        self.in_bounds(highest)
+            && self
+                .list()
+                .last()
+                .is_none_or(|&stop| u64::from(stop) <= last_byte_as_stop)
+    }
+}
+
+/// A listed command with arguments so far that the rules can leave.
+fn arguments_in_bounds(command: u8, given: u8, first: u8) -> bool {
+    match (arguments_taken(command), given) {
+        (0, _) => false,
+        (_, 0) => true,
+        (2, 1) => command != b'C' || first == 0,
+        _ => false,
+    }
+}
+
+/// How many arguments a listed command may take at most, other than a list.
+pub fn arguments_taken(command: u8) -> u8 {
+    match command {
+        b'3' | b'A' | b'+' | b'J' | b'N' | b'l' | b'Q' => 1,
+        b'p' | b'S' | b'x' | b'W' | b'w' | b'-' | b'%' => 1,
+        b't' | b'R' | b'q' | b'k' | b' ' | b'!' => 1,
+        b'C' | b'$' | b'\\' | b'K' | b'L' | b'Y' | b'Z' => 2,
+        _ => 0,
+    }
+}

@@ -1,0 +1,76 @@
+//! A plain reader of the ESC/P legacy page language: bytes come in, placed
+//! records come out. One unit is 1/3600 inch.
+
+mod bounds;
+mod commands;
+mod place;
+mod records;
+mod state;
+mod stops;
+#[cfg(test)]
+mod tests;
+
+pub use state::{State, Stops, Waiting};
+
+use records::Records;
+
+/// The input is used up, or a start is accepted.
+pub const INPUT_USED: u8 = 0;
+/// The allowance is used and input is left.
+pub const ALLOWANCE_USED: u8 = 1;
+/// Under 28 output bytes are left, with input and allowance left.
+pub const OUTPUT_FULL: u8 = 2;
+/// A start with a resolution neither 300 nor 203.
+pub const START_REFUSED: u8 = 3;
+/// The state is outside the bounds.
+pub const STATE_REFUSED: u8 = 4;
+
+/// The room that one byte may need: an automatic line and its letter.
+const ROOM_FOR_A_BYTE: usize = 2 * records::LENGTH;
+
+/// What a reading call answers: its number, bytes read and bytes written.
+#[derive(Clone, Copy, PartialEq, Eq, Debug)]
+pub struct Report {
+    pub answer: u8,
+    pub read: usize,
+    pub written: usize,
+}
+
+/// Starts a printer: the answer's number and the power-on state.
+pub fn start(dots: u32, auto_feed: bool) -> (u8, State) {
+    match dots {
+        300 | 203 => (INPUT_USED, State::power_on(dots, auto_feed)),
+        _ => (START_REFUSED, State::power_on(300, false)),
+    }
+}
+
+/// Reads a piece of input: updates the state and writes records to `out`.
+pub fn read(state: &mut State, input: &[u8], allowance: usize, out: &mut [u8]) -> Report {
+    if !state.accepted() {
+        return Report {
+            answer: STATE_REFUSED,
+            read: 0,
+            written: 0,
+        };
+    }
+    let mut records = Records::new(out);
+    let mut read = 0;
+    let answer = loop {
+        if read == input.len() {
+            break INPUT_USED;
+        }
+        if read == allowance {
+            break ALLOWANCE_USED;
+        }
+        if records.room() < ROOM_FOR_A_BYTE {
+            break OUTPUT_FULL;
+        }
+        commands::step(state, input[read], &mut records);
+        read += 1;
+    };
+    Report {
+        answer,
+        read,
+        written: records.written(),
+    }
+}

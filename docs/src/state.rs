@@ -1,0 +1,242 @@
+//! The printer state, power-on and the widths that follow from the settings.
+
+/// The paper's width: 80 columns of 10 cpi.
+pub(crate) const PAPER_WIDTH: u32 = 28_800;
+pub(crate) const SHORTEST_PAGE: u32 = 3_600;
+pub(crate) const LONGEST_PAGE: u32 = 79_200;
+pub(crate) const LARGEST_LINE: u32 = 5_100;
+pub(crate) const LARGEST_SPACING: u8 = 127;
+
+const POWER_ON_PAGE: u32 = 39_600;
+const POWER_ON_LINE: u32 = 600;
+
+/// A list of tab stops and how many of its slots count.
+#[derive(Clone, PartialEq, Eq, Debug)]
+pub struct Stops<const N: usize> {
+    pub stops: [u32; N],
+    pub count: u8,
+}
+
+impl<const N: usize> Stops<N> {
+    pub(crate) const EMPTY: Self = Stops {
+        stops: [0; N],
+        count: 0,
+    };
+
+    /// The stops that count.
+    pub(crate) fn list(&self) -> &[u32] {
+        &self.stops[..usize::from(self.count)]
+    }
+
+    pub(crate) fn is_full(&self) -> bool {
+        usize::from(self.count) >= N
+    }
+
+    /// Adds a stop to a list that is not full.
+    pub(crate) fn add(&mut self, stop: u32) {
+        self.stops[usize::from(self.count)] = stop;
+        self.count += 1;
+    }
+}
+
+/// What the reader is still waiting for.
+#[derive(Clone, Copy, PartialEq, Eq, Debug)]
+pub enum Waiting {
+    Nothing,
+    /// An escape's second byte.
+    SecondByte,
+    /// Arguments of a command, named by its second byte: how many are given
+    /// so far, and the first of them (of no meaning while none is given).
+    Arguments {
+        command: u8,
+        given: u8,
+        first: u8,
+    },
+    /// A list of horizontal stops (ESC D), after this byte.
+    HorizontalStops {
+        last: u8,
+    },
+    /// A list of vertical stops (ESC B), after this byte.
+    VerticalStops {
+        last: u8,
+    },
+    /// Image data: the units of a column and the columns left.
+    Image {
+        units: u32,
+        columns: u32,
+    },
+}
+
+/// The printer state. Places and lengths are in units.
+#[derive(Clone, PartialEq, Eq, Debug)]
+pub struct State {
+    /// Dots per inch across: 300 or 203.
+    pub resolution: u32,
+    pub automatic_line_feed: bool,
+    /// The place across, from the paper's left edge.
+    pub across: u32,
+    /// The place down, from the page's top.
+    pub down: u32,
+    pub left: u32,
+    pub right: u32,
+    pub page_length: u32,
+    pub skip: u32,
+    pub line_amount: u32,
+    /// Characters per inch: 10, 12 or 15.
+    pub pitch: u8,
+    pub proportional: bool,
+    pub reduced: bool,
+    /// SO: double width that ends by itself.
+    pub shift_out: bool,
+    /// ESC W: double width that stays.
+    pub double_width: bool,
+    pub double_height: bool,
+    pub bold: bool,
+    pub double_strike: bool,
+    pub italic: bool,
+    pub underline: bool,
+    pub superscript: bool,
+    pub subscript: bool,
+    /// The ESC q number.
+    pub character_style: u8,
+    /// ESC t 0: upper codes come from the italic table.
+    pub italic_table: bool,
+    pub download_set: bool,
+    /// ESC x: draft quality, else letter quality.
+    pub draft: bool,
+    pub font: u8,
+    pub country: u8,
+    pub spacing: u8,
+    /// ESC 6: 80h to 9Fh print; after ESC 7 they are control bytes.
+    pub upper_codes_print: bool,
+    /// Horizontal stops in force, in columns.
+    pub horizontal: Stops<32>,
+    /// Vertical stops in force, in units from the page's top.
+    pub vertical: Stops<16>,
+    pub vertical_never_set: bool,
+    /// The list that ESC D is gathering.
+    pub gathered_horizontal: Stops<32>,
+    /// The list that ESC B is gathering.
+    pub gathered_vertical: Stops<16>,
+    pub waiting: Waiting,
+}
+
+impl State {
+    /// The power-on state.
+    pub fn power_on(resolution: u32, automatic_line_feed: bool) -> State {
+        State {
+            resolution,
+            automatic_line_feed,
+            across: 0,
+            down: 0,
+            left: 0,
+            right: PAPER_WIDTH,
+            page_length: POWER_ON_PAGE,
+            skip: 0,
+            line_amount: POWER_ON_LINE,
+            pitch: 10,
+            proportional: false,
+            reduced: false,
+            shift_out: false,
+            double_width: false,
+            double_height: false,
+            bold: false,
+            double_strike: false,
+            italic: false,
+            underline: false,
+            superscript: false,
+            subscript: false,
+            character_style: 0,
+            italic_table: false,
+            download_set: false,
+            draft: false,
+            font: 0,
+            country: 0,
+            spacing: 0,
+            upper_codes_print: true,
+            horizontal: every_eight_columns(),
+            vertical: Stops::EMPTY,
+            vertical_never_set: true,
+            gathered_horizontal: Stops::EMPTY,
+            gathered_vertical: Stops::EMPTY,
+            waiting: Waiting::Nothing,
+        }
+    }
+
+    /// The end of the page's usable length.
+    pub(crate) fn edge(&self) -> u32 {
+        self.page_length - self.skip
+    }
+
+    /// A letter's advance in units.
+    pub(crate) fn advance(&self) -> u32 {
+        let single = self.base_width() + 20 * u32::from(self.spacing);
+        if self.double_width || self.shift_out {
+            2 * single
+        } else {
+            single
+        }
+    }
+
+    /// The width that stops and margins count in.
+    pub(crate) fn column_width(&self) -> u32 {
+        if self.proportional {
+            360
+        } else {
+            self.advance()
+        }
+    }
+
+    fn base_width(&self) -> u32 {
+        match (self.proportional, self.reduced, self.pitch) {
+            (true, false, _) => 360,
+            (true, true, _) => 180,
+            (false, false, 10) => 360,
+            (false, false, 12) => 300,
+            (false, true, 10) => 216,
+            (false, true, 12) => 180,
+            (false, _, _) => 240,
+        }
+    }
+
+    /// The style field of a letter's record.
+    pub(crate) fn style(&self) -> u16 {
+        u16::from(self.bold)
+            | u16::from(self.double_strike) << 1
+            | u16::from(self.italic) << 2
+            | u16::from(self.underline) << 3
+            | u16::from(self.superscript) << 4
+            | u16::from(self.subscript) << 5
+            | u16::from(self.double_width || self.shift_out) << 6
+            | u16::from(self.double_height) << 7
+            | u16::from(self.character_style) << 8
+            | u16::from(self.proportional) << 10
+            | u16::from(self.reduced) << 11
+            | u16::from(self.italic_table) << 12
+            | u16::from(self.download_set) << 13
+    }
+
+    /// The dot column of the place across.
+    pub(crate) fn column(&self) -> u16 {
+        dot(self.across, self.resolution)
+    }
+
+    /// The dot row of the place down.
+    pub(crate) fn row(&self) -> u16 {
+        dot(self.down, if self.resolution == 203 { 200 } else { 300 })
+    }
+}
+
+/// The horizontal stops of power-on: columns 8, 16 .. 72.
+fn every_eight_columns() -> Stops<32> {
+    let mut stops = Stops::EMPTY;
+    for column in (8..=72).step_by(8) {
+        stops.add(column);
+    }
+    stops
+}
+
+/// The rounding rule, from units to dots.
+fn dot(units: u32, per_inch: u32) -> u16 {
+    ((units * per_inch + 1_800) / 3_600) as u16
+}

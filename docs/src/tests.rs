@@ -1,0 +1,120 @@
+//! Tests by the words of the rules.
+
+mod answers;
+mod bounds;
+mod hand_checked;
+mod open_points;
+
+use crate::{read, start, State};
+
+/// A record taken apart.
+#[derive(Clone, Copy, PartialEq, Eq, Debug)]
+struct Seen {
+    mark: [u8; 2],
+    column: u16,
+    row: u16,
+    byte: u8,
+    font: u8,
+    style: u16,
+    country: u8,
+    advance: u16,
+}
+
+const NONE: Seen = Seen {
+    mark: [0; 2],
+    column: 0,
+    row: 0,
+    byte: 0,
+    font: 0,
+    style: 0,
+    country: 0,
+    advance: 0,
+};
+
+fn no(byte: u8, reason: u16) -> Seen {
+    Seen {
+        mark: *b"NO",
+        byte,
+        style: reason,
+        ..NONE
+    }
+}
+
+fn ln(row: u16, pages: u8) -> Seen {
+    Seen {
+        mark: *b"LN",
+        row,
+        byte: pages,
+        ..NONE
+    }
+}
+
+fn cl() -> Seen {
+    Seen {
+        mark: *b"CL",
+        ..NONE
+    }
+}
+
+fn tx(letter: u8, column: u16, row: u16, advance: u16) -> Seen {
+    Seen {
+        mark: *b"TX",
+        column,
+        row,
+        byte: letter,
+        advance,
+        ..NONE
+    }
+}
+
+fn im(byte: u8, column: u16, row: u16, units: u16) -> Seen {
+    Seen {
+        mark: *b"IM",
+        ..tx(byte, column, row, units)
+    }
+}
+
+fn apart(record: &[u8]) -> Seen {
+    let word = |at: usize| u16::from_le_bytes([record[at], record[at + 1]]);
+    assert_eq!(record[11], 0);
+    Seen {
+        mark: [record[0], record[1]],
+        column: word(2),
+        row: word(4),
+        byte: record[6],
+        font: record[7],
+        style: word(8),
+        country: record[10],
+        advance: word(12),
+    }
+}
+
+/// Reads all of the input with room enough.
+fn read_all(state: &mut State, input: &[u8]) -> Vec<Seen> {
+    let mut out = vec![0; 28 * (input.len() + 1)];
+    let report = read(state, input, input.len(), &mut out);
+    assert_eq!((report.answer, report.read), (0, input.len()));
+    out[..report.written].chunks(14).map(apart).collect()
+}
+
+fn at_300(input: &[u8]) -> Vec<Seen> {
+    read_all(&mut start(300, false).1, input)
+}
+
+fn with_line_feed(input: &[u8]) -> Vec<Seen> {
+    read_all(&mut start(300, true).1, input)
+}
+
+fn columns(records: &[Seen]) -> Vec<u16> {
+    let letters = records.iter().filter(|record| record.mark == *b"TX");
+    letters.map(|record| record.column).collect()
+}
+
+/// The advance of a letter after this input.
+fn advance_after(input: &[u8]) -> u16 {
+    let mut input = input.to_vec();
+    input.push(b'A');
+    let last = at_300(&input).pop().unwrap();
+    assert_eq!(last.mark, *b"TX");
+    last.advance
+}

@@ -1,0 +1,147 @@
+//! Reads the ESC/P legacy page language: bytes come in, placed records of 14
+//! bytes come out.
+//!
+//! This is a safe cover over the static library libierbulosc.a, whose C
+//! interface is include/escp.h. The library keeps nothing between calls,
+//! allocates nothing and always returns; all it knows is in [`State`].
+//!
+//! ```
+//! let (answer, mut state) = ierbulosc::State::start(300, false);
+//! assert_eq!(answer, ierbulosc::INPUT_USED);
+//! let mut out = [0; 56];
+//! let report = state.read(b"A\n", usize::MAX, &mut out);
+//! assert_eq!((report.answer, report.read, report.written), (0, 2, 28));
+//! assert_eq!(&out[..2], b"TX");
+//! assert_eq!(&out[14..16], b"LN");
+//! ```
+
+mod state;
+
+pub use state::*;
+
+/// All of the input was read; of a start: it is done.
+pub const INPUT_USED: u8 = 0;
+/// As many bytes as allowed were read, and input is left.
+pub const ALLOWANCE_USED: u8 = 1;
+/// Under [`ROOM`] bytes of output are left, and input and allowance are left.
+pub const OUTPUT_FULL: u8 = 2;
+/// A start with neither 300 nor 203 dots.
+pub const SETTINGS_REFUSED: u8 = 3;
+/// The state is none that the library leaves.
+pub const STATE_REFUSED: u8 = 4;
+
+/// The bytes of a record.
+///
+/// Numbers of two bytes have the low byte first: the mark (two letters), dot
+/// column (2), dot row (2), byte (1), font (1), style (2), country (1), zero
+/// (1), advance in units (2).
+/// - TX is a letter, with all fields.
+/// - IM is a byte of image data, with column, row, byte and advance.
+/// - LN is a line fed or a page turned: the new row, and in byte the pages
+///   turned, or 255 for a new top.
+/// - CL: the TX and IM since the last LN, CL or start are void.
+/// - NO is a byte or command passed over: its byte, and in style the reason:
+///   1 unlisted; 2 argument or setting not allowed; 3 past margin, page or
+///   stop limits; 4 letter or image column does not fit; 5 no stop to the
+///   right.
+///
+/// Fields that are not named are 0.
+pub const RECORD_SIZE: usize = 14;
+/// The room that must be left in the output for a byte to be read: it writes
+/// at most two records.
+pub const ROOM: usize = 28;
+
+/// What a reading call came back with.
+#[derive(Clone, Copy, PartialEq, Eq, Debug)]
+pub struct Report {
+    /// [`INPUT_USED`], [`ALLOWANCE_USED`], [`OUTPUT_FULL`] or
+    /// [`STATE_REFUSED`].
+    pub answer: u8,
+    /// How many bytes of the input were read.
+    pub read: usize,
+    /// How many bytes of the output were written, a multiple of
+    /// [`RECORD_SIZE`].
+    pub written: usize,
+}
+
+/// `escp_counts` of the header.
+#[repr(C)]
+struct Counts {
+    read: usize,
+    written: usize,
+}
+
+extern "C" {
+    fn escp_start(state: *mut State, dots: u32, auto_feed: bool) -> u8;
+
+    fn escp_read(
+        state: *mut State,
+        input: *const u8,
+        input_length: usize,
+        allowance: usize,
+        output: *mut u8,
+        output_length: usize,
+        counts: *mut Counts,
+    ) -> u8;
+}
+
+impl State {
+    /// Starts a printer of so many dots to the inch: 300, or 203 (203 across
+    /// and 200 down). `auto_feed` has CR feed a line.
+    ///
+    /// The answer and the state with it:
+    /// - [`INPUT_USED`]: the power-on state of these settings;
+    /// - [`SETTINGS_REFUSED`]: `dots` is neither 300 nor 203; the power-on
+    ///   state for 300 dots, without automatic line feed.
+    pub fn start(dots: u32, auto_feed: bool) -> (u8, State) {
+        let mut state = State::ZERO;
+        // SAFETY: the pointer is to a whole State, which no one else holds
+        // during the call. Its fields are plain numbers, so that whatever the
+        // library writes there is a State again. The library keeps no pointer.
+        let answer = unsafe { escp_start(&mut state, dots, auto_feed) };
+        (answer, state)
+    }
+
+    /// Reads input into records: at most `allowance` bytes of it, and as long
+    /// as [`ROOM`] bytes of output are left. Before each byte it tests for
+    /// [`INPUT_USED`], [`ALLOWANCE_USED`] and [`OUTPUT_FULL`], in this order.
+    ///
+    /// - On these three answers `self` is the new state; `read` bytes of the
+    ///   input were read; `written` bytes were written at the beginning of
+    ///   `out`. To go on after the last two, pass the rest of the input.
+    /// - [`STATE_REFUSED`]: `self` is none that the library leaves: a field
+    ///   has a value that is not given for it, or the whole is outside the
+    ///   printer's bounds. This is tested before all else. `self` stays as it
+    ///   was, and both counts are 0.
+    ///
+    /// What `out` holds past `written` stays as it was. Input may come in
+    /// pieces of any length, cut anywhere, even inside a command: the records
+    /// are those of the whole. Any state whatever may be passed.
+    pub fn read(&mut self, input: &[u8], allowance: usize, out: &mut [u8]) -> Report {
+        let mut counts = Counts {
+            read: 0,
+            written: 0,
+        };
+        // SAFETY: no pointer is null, even of an empty slice, and each is good
+        // for the length passed with it. The state, the output and the counts
+        // are held exclusively, so that none of them overlaps another or the
+        // input. All of them are plain numbers, which the library may set to
+        // any value. The library writes nowhere else and keeps no pointer.
+        let answer = unsafe {
+            escp_read(
+                self,
+                input.as_ptr(),
+                input.len(),
+                allowance,
+                out.as_mut_ptr(),
+                out.len(),
+                &mut counts,
+            )
+        };
+        Report {
+            answer,
+            read: counts.read,
+            written: counts.written,
+        }
+    }
+}
