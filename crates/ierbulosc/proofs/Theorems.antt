@@ -1,13 +1,12 @@
 -- The theorems about the exported calls' definitions, each stated once.
-use Prim.Native.Nat.{ℕ, _+_, _*_, _<_}
-use mathlib.Core.Path.{_≡_, refl, sym, ap, _∙_}
+use Prim.Native.Nat.{ℕ}
+use mathlib.Core.Path.{_≡_, refl, sym, ap, subst, _∙_}
 use mathlib.Core.Bool.{Bool, true, false}
 use mathlib.Core.List.{List}
-use mathlib.Core.Logic.{⊎-elim}
 use lib.ListN.{length}
 use native.Mathlib.Omega.{arith}
-use Rattle.printer.specs.Bounds.{accepted}
-use Rattle.printer.specs.Calls.{numberOf, Run, callOf, readingOf, LentPromise, ExactlyWhen}
+use Rattle.printer.specs.Calls.{readingOf, LentPromise, Manner, lent, ReadCall, ThatState, row, numberOf}
+use Rattle.printer.specs.declared.answers.Answer.{Answer}
 use Rattle.printer.specs.declared.state.Printer.{Printer}
 use Rattle.ierbulosc.specs.Calls.{countsOf, EscpReadPromise, stateReadingOf, stateOutputOf}
 use Rattle.ierbulosc.specs.Packing.{pack}
@@ -15,7 +14,7 @@ use Rattle.ierbulosc.specs.Unpacking.{valid, printerOf, unpack}
 use Rattle.ierbulosc.specs.declared.state.Counts.{Counts}
 use Rattle.ierbulosc.specs.declared.state.State.{State}
 use Rattle.ierbulosc.specs.declared.unpack.Unpacked.{Unpacked}
-use Rattle.printer.proofs.Theorems.{answers, refuses}
+use Rattle.printer.proofs.Theorems.{answers}
 use Rattle.ierbulosc.proofs.RoundTrip.{printer-back, pack-valid, pack-again}
 
 -- the state, found
@@ -42,13 +41,13 @@ known-elim : (P : Type 0) (t : Bool) → (t ≡ true → P) → (t ≡ false →
 known-elim P true f g = f refl
 known-elim P false f g = g refl
 
--- a run's answer is 0, 1 or 2
-under-4 : (bytes allowance room : ℕ) (v : Run) → ExactlyWhen bytes allowance room v → numberOf (v .answer) ≡ 4 → ⊥
-under-4 bytes allowance room v h four =
-    ⊎-elim (λ (i : (numberOf (v .answer) ≡ 0) × (v .read ≡ bytes)). omega arith)
-    (λ k. ⊎-elim (λ (i : (numberOf (v .answer) ≡ 1) × (v .read ≡ allowance) × (v .read < bytes)). omega arith)
-    (λ (i : (numberOf (v .answer) ≡ 2) × (v .read < allowance) × (v .read < bytes)
-    × (room < 14 * length (v .records) + 28)). omega arith) k) h
+-- the answer of number 4
+of-4 : (a : Answer) → numberOf a ≡ 4 → a ≡ Answer.StateRefused
+of-4 Answer.InputUsed e = absurd (omega arith)
+of-4 Answer.AllowanceUsed e = absurd (omega arith)
+of-4 Answer.OutputFull e = absurd (omega arith)
+of-4 Answer.SettingsRefused e = absurd (omega arith)
+of-4 Answer.StateRefused e = refl
 
 module _ (s : State) (input : List ℕ) (allowance : ℕ) (out : List ℕ) (number : ℕ) (left : State) (counted : Counts)
     (after : List ℕ) (promise : EscpReadPromise s input allowance out number left counted after) where
@@ -60,7 +59,7 @@ module _ (s : State) (input : List ℕ) (allowance : ℕ) (out : List ℕ) (numb
   read-as-lent p h =
       let e : valid s ≡ true = ap (λ (u : Unpacked). u .valid) h in
       let f : printerOf s ≡ p = ap (λ (u : Unpacked). u .printer) h in (
-        record { gives = refl; state = refl; output = promise .output ∙ rw (e, f) },
+        record { gives = refl; output = promise .output ∙ rw (e, f) },
         promise .answer ∙ rw (e, f),
         promise .state ∙ rw (e, f),
         promise .counts ∙ rw (e, f),
@@ -79,13 +78,22 @@ module _ (s : State) (input : List ℕ) (allowance : ℕ) (out : List ℕ) (numb
       (λ e.
       let p = printerOf s in
       let lent = read-as-lent p (ap (λ (t : Bool). record { valid = t; printer = p }) e) in
-      known-elim _ (accepted p)
-      (λ a. absurd (under-4 (length input) allowance (length out) (callOf p input allowance (length out))
-      (answers p input allowance (length out) a) (sym (lent .1) ∙ four)))
-      (λ a.
-      let r = refuses p input allowance out a in (
-        lent .2 ∙ ap pack (r .state) ∙ pack-again s e,
-        lent .3 ∙ cc (r .read, r .written),
-        lent .0 .output ∙ r .output,
-      )))
+      let v = readingOf p input allowance (length out) in
+      let c : ReadCall =
+      record {
+        manner = Manner.lent;
+        state = p;
+        input = input;
+        allowance = allowance;
+        out = out;
+        back = v .report;
+        left = v .printer;
+        after = after;
+      } in
+      let that : ThatState c =
+      subst (λ (a : Answer). row a .reading c .back) (of-4 (v .report .answer) (sym (lent .1) ∙ four)) (answers c (lent .0) .back) in (
+        lent .2 ∙ ap pack (that .state) ∙ pack-again s e,
+        lent .3 ∙ cc (that .read, that .written),
+        that .output,
+      ))
       (λ e. let r = read-refused e in (r .1, r .2, r .3))

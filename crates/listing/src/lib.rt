@@ -1,12 +1,29 @@
-// Input read into records, and records written as lines to standard output: what the programs share.
+// ESC/P read from standard input, piece by piece, and a line for each record written to standard output: what the programs share.
+use libc::STDIN_FILENO;
 use libc::STDOUT_FILENO;
+use lines::hex;
+use lines::hex_lines;
 use printer::answers::Reading;
+use printer::records::Record;
 use printer::state::Printer;
-ghost use mathlib.Core.Path.{_≡_};
 ghost use Prim.Native.Nat.{_≤_};
 ghost use lib.ListN.{length};
 ghost use Rattle.printer.specs.Calls.{ReadPromise};
-ghost use Rattle.lines.specs.HexLines.{textOf};
+ghost use Rattle.listing.specs.Showing.{SomeShown, AllShown, FromInput, pieceSize};
+
+// The most bytes of a piece of input.
+const PIECE: usize = 32768;
+
+// The most records that are made of it at a time.
+const MOST: usize = 1024;
+
+// What is left after some input: the state, how many bytes were read, and whether writing failed. No contract of the kit says when writing
+// fails, so none here does: the flag is io::write_all's own answer.
+pub struct Part {
+    pub printer: Printer,
+    pub read: usize,
+    pub failed: bool,
+}
 
 // A reading call with allowance for all its input.
 pub fn read(printer: Printer, input: &[u8], out: &mut [u8]) -> Reading
@@ -16,10 +33,92 @@ pub fn read(printer: Printer, input: &[u8], out: &mut [u8]) -> Reading
     reader::read(printer, input, input.len(), out)
 }
 
-// Writes the lines of the records, made in `text`, as many as fit there; false if that fails.
-pub fn print(records: &[u8], text: &mut [u8]) -> bool
-    ensures { λ _. ⌜ now (text .exit) ≡ textOf (now (records .entry)) (now (text .entry)) ⌝ }
+// Reads as much as there is room for, and writes the lines of its records.
+pub fn show_some(printer: Printer, input: &[u8]) -> Part
+    ensures { λ r. ⌜ SomeShown printer (now (input .entry)) r ⌝ }
 {
-    let count = lines::hex_lines(records, text);
-    io::write_all(STDOUT_FILENO, &text[0..count])
+    let mut records = [0u8; MOST * Record::SIZE];
+    let mut text = [0u8; MOST * hex::LINE];
+    let reading = read(printer, input, &mut records);
+    let report = reading.report;
+    let next = reading.printer;
+    let written = report.written;
+    let size = hex_lines(&records[0..written], &mut text);
+    let wrote = io::write_all(STDOUT_FILENO, &text[0..size]);
+    Part {
+        printer: next,
+        read: report.read,
+        failed: !wrote,
+    }
+}
+
+// Shows a piece of input to its end, or until writing fails.
+pub fn show(printer: Printer, input: &[u8]) -> Part
+    ensures { λ r. ⌜ AllShown printer (now (input .entry)) r ⌝ }
+{
+    let mut p = printer;
+    let mut at = 0;
+    while at < input.len() {
+        let part = show_some(p, &input[at..]);
+        let next = part.printer;
+        p = next;
+        at += part.read;
+        if part.failed | (part.read == 0) {
+            return Part {
+                printer: p,
+                read: at,
+                failed: part.failed,
+            };
+        }
+    }
+    Part {
+        printer: p,
+        read: at,
+        failed: false,
+    }
+}
+
+// Reads a piece, of whatever size it comes in, and shows it. That the piece is what standard input has next is left to these lines.
+fn take_piece(printer: Printer) -> Part
+    ensures { λ r. ⌜ FromInput printer (r .printer) (r .read) ⌝ }
+    ensures { λ r. ⌜ r .read ≤ pieceSize ⌝ }
+{
+    let mut piece = [0u8; PIECE];
+    let got = libc::read(STDIN_FILENO, &mut piece);
+    if got < 0 {
+        os::fail(b"escp: standard input");
+    }
+    let n = io::count(got, &piece);
+    let part = show(printer, &piece[0..n]);
+    if part.failed {
+        os::fail(b"escp: standard output");
+    }
+    part
+}
+
+// Takes pieces until none comes or writing fails. That it goes on until then is left to these lines; the bytes are counted, since nothing
+// says that the input ends.
+pub fn run(printer: Printer) -> Part
+    ensures { λ r. ⌜ FromInput printer (r .printer) (r .read) ⌝ }
+{
+    let mut p = printer;
+    let mut read: usize = 0;
+    while read < usize::MAX - PIECE {
+        let part = take_piece(p);
+        let next = part.printer;
+        p = next;
+        read += part.read;
+        if part.failed | (part.read == 0) {
+            return Part {
+                printer: p,
+                read,
+                failed: part.failed,
+            };
+        }
+    }
+    Part {
+        printer: p,
+        read,
+        failed: false,
+    }
 }

@@ -1,6 +1,6 @@
 -- Demand 3, over every list of calls with what came back that begins with a start.
 use Prim.Native.Nat.{ℕ, zero, suc, _*_, _-_, _≤_}
-use mathlib.Core.Path.{_≡_, refl, ap, _∙_}
+use mathlib.Core.Path.{_≡_, refl}
 use mathlib.Core.Bool.{Bool, true, false}
 use mathlib.Core.List.{List, [], _∷_, _++_}
 use native.Mathlib.Omega.{arith}
@@ -12,12 +12,10 @@ use Rattle.printer.specs.Records.{recordSize, roomForByte, encodedAll, F
 use Rattle.printer.specs.Steps.{recordsOver, stepOf, stepRecords}
 use Rattle.printer.specs.PowerOn.{powerOn}
 use Rattle.printer.specs.Calls
-use Rattle.printer.specs.Calls.{numberOf, setup, startOf, Run, runOf, callOf, readingOf, outputOf}
+use Rattle.printer.specs.Calls.{numberOf, setup, startOf, Run, runOf, callOf, StartCall, ReadCall, ReadingPromise, bytesOf}
 use Rattle.printer.specs.Reckoning.{origin, begun, Axis, printed}
-use Rattle.printer.specs.Demand3.{Rooms, StartCall, ReadCall, Manner, byValue, lent, Call, started, read, ReadingPromise, Chain, bytesOf, rulesAfter, occurrences, OwnCall, Own, NotFour, writtenBy, joined, Demand3}
+use Rattle.printer.specs.Demand3.{Rooms, Call, started, read, Chain, rulesAfter, occurrences, OwnCall, Own, NotFour, writtenBy, joined, Demand3}
 use Rattle.printer.specs.declared.answers.Answer.{Answer}
-use Rattle.printer.specs.declared.answers.Report.{Report}
-use Rattle.printer.specs.declared.answers.Reading.{Reading}
 use Rattle.printer.specs.declared.answers.Started.{Started}
 use Rattle.printer.specs.declared.records.Record.{Record}
 use Rattle.printer.specs.declared.settings.Setup.{Setup}
@@ -28,7 +26,7 @@ use Rattle.printer.proofs.Accepting.{fact-accepted}
 use Rattle.printer.proofs.KeepingSteps.{Ours, steps-ours, power-on-ours}
 use Rattle.printer.proofs.Writing.{steps-fit}
 use Rattle.printer.proofs.Bytes.{decodedAll-encoded, encodedAll-append}
-use Rattle.printer.proofs.Cuts.{call-steps, call-writes}
+use Rattle.printer.proofs.Cuts.{kept-promise, call-writes}
 use Rattle.printer.proofs.Following.{from}
 use Rattle.printer.proofs.Claims.{Claim, nothing, Keeps, bytes-then}
 
@@ -74,26 +72,12 @@ call-number : (p : Printer) (input : List ℕ) (allowance room : ℕ) → Ours p
 unfolding callOf
 call-number p input allowance room o = rw (fact-accepted p (o .accepted)) (run-number p input allowance room)
 
--- either promise says the same of what came back
-own-promise : (m : Manner) (c : ReadCall) → ReadingPromise m c
-    → (c .back ≡ readingOf (c .state) (c .input) (c .allowance) (length (c .out)) .report)
-    × (c .left ≡ readingOf (c .state) (c .input) (c .allowance) (length (c .out)) .printer)
-    × (c .after ≡ outputOf (c .state) (c .input) (c .allowance) (c .out))
-own-promise byValue c h = (ap (λ (r : Reading). r .report) (h .gives), ap (λ (r : Reading). r .printer) (h .gives), h .output)
-own-promise lent c h = (h .gives, h .state, h .output)
-
-own-call : (p : Printer) (m : Manner) (c : ReadCall) → c .state ≡ p → ReadingPromise m c → OwnCall p (read m c)
-own-call p m c e h =
-    let q = own-promise m c h in
-    let back : c .back ≡ readingOf p (c .input) (c .allowance) (length (c .out)) .report = rw e at (q .0) in
-    let left : c .left ≡ readingOf p (c .input) (c .allowance) (length (c .out)) .printer = rw e at (q .1) in
-    let steps = call-steps p (c .input) (c .allowance) (length (c .out)) in
-    let read : c .back .read ≡ readingOf p (c .input) (c .allowance) (length (c .out)) .report .read = ap (λ (n : Report). n .read) back in
-    (e, back, rw read (left ∙ steps .state), rw e at (q .2))
+own-call : (p : Printer) (c : ReadCall) → c .state ≡ p → ReadingPromise c → OwnCall p (read c)
+own-call p c e h = let k = kept-promise c h in (e, rw e at (k .back), rw e at (k .new .state), rw e at (h .output))
 
 -- what a call wrote is the bytes of the rules' records
-own-written : (p : Printer) (m : Manner) (c : ReadCall) → OwnCall p (read m c) → writtenBy (read m c) ≡ encodedAll (recordsOver p (bytesOf c))
-own-written p m c h = rw (h .1, h .3) (call-writes p (c .input) (c .allowance) (c .out))
+own-written : (p : Printer) (c : ReadCall) → OwnCall p (read c) → writtenBy (read c) ≡ encodedAll (recordsOver p (bytesOf c))
+own-written p c h = rw (h .1, h .3) (call-writes p (c .input) (c .allowance) (c .out))
 
 -- Lists of calls
 
@@ -101,28 +85,28 @@ own-written p m c h = rw (h .1, h .3) (call-writes p (c .input) (c .allowance) (
 recordsIn : Printer → List Call → List Record
 recordsIn p [] = []
 recordsIn p (started c ∷ l) = recordsIn (rulesAfter p (started c)) l
-recordsIn p (read m c ∷ l) = recordsOver p (bytesOf c) ++ recordsIn (rulesAfter p (read m c)) l
+recordsIn p (read c ∷ l) = recordsOver p (bytesOf c) ++ recordsIn (rulesAfter p (read c)) l
 
 own-list : (p : Printer) (l : List Call) → Chain p l → Own p l
 own-list p [] h = tt
 own-list p (started c ∷ l) h =
     let e : c .back ≡ startOf (c .resolution) (c .autofeed) = h .0 .gives in
     (e, own-list (rulesAfter p (started c)) l (rw e at (h .1)))
-own-list p (read m c ∷ l) h =
-    let o = own-call p m c (h .0 .0) (h .0 .2) in
-    (o, own-list (rulesAfter p (read m c)) l (rw (o .2) at (h .1)))
+own-list p (read c ∷ l) h =
+    let o = own-call p c (h .0 .0) (h .0 .2) in
+    (o, own-list (rulesAfter p (read c)) l (rw (o .2) at (h .1)))
 
 -- the input of each reading call is bytes
 BytesIn : List Call → Type 0
 BytesIn [] = Unit
 BytesIn (started c ∷ l) = BytesIn l
-BytesIn (read m c ∷ l) = Bytes (c .input) × BytesIn l
+BytesIn (read c ∷ l) = Bytes (c .input) × BytesIn l
 
 bytes-in : (p : Printer) (l : List Call) → Chain p l → BytesIn l
 unfolding BytesIn
 bytes-in p [] h = tt
 bytes-in p (started c ∷ l) h = bytes-in (c .back .printer) l (h .1)
-bytes-in p (read m c ∷ l) h = (h .0 .1, bytes-in (c .left) l (h .1))
+bytes-in p (read c ∷ l) h = (h .0 .1, bytes-in (c .left) l (h .1))
 
 start-ours : (resolution : ℕ) (autofeed : Bool) → Ours (startOf resolution autofeed .printer)
 start-ours resolution autofeed = start-begins resolution autofeed .keeps .ours
@@ -134,26 +118,26 @@ not-four p (started c ∷ l) m h o = (
   rw (h .0) (start-begins (c .resolution) (c .autofeed) .number),
   not-four (rulesAfter p (started c)) l m (h .1) (start-ours (c .resolution) (c .autofeed)),
 )
-not-four p (read n c ∷ l) m h o = (
+not-four p (read c ∷ l) m h o = (
   rw (h .0 .1) (call-number p (c .input) (c .allowance) (length (c .out)) o),
-  not-four (rulesAfter p (read n c)) l (m .1) (h .1) (steps-ours p (bytesOf c) (bytes-take (c .back .read) (c .input) (m .0)) o),
+  not-four (rulesAfter p (read c)) l (m .1) (h .1) (steps-ours p (bytesOf c) (bytes-take (c .back .read) (c .input) (m .0)) o),
 )
 
 joined-records : (p : Printer) (l : List Call) → Own p l → joined l ≡ encodedAll (recordsIn p l)
 unfolding joined recordsIn encodedAll
 joined-records p [] h = refl
 joined-records p (started c ∷ l) h = joined-records (rulesAfter p (started c)) l (h .1)
-joined-records p (read m c ∷ l) h =
-    rw (own-written p m c (h .0), joined-records (rulesAfter p (read m c)) l (h .1), encodedAll-append (recordsOver p (bytesOf c)) (recordsIn (rulesAfter p (read m c)) l))
+joined-records p (read c ∷ l) h =
+    rw (own-written p c (h .0), joined-records (rulesAfter p (read c)) l (h .1), encodedAll-append (recordsOver p (bytesOf c)) (recordsIn (rulesAfter p (read c)) l))
 
 records-fit : (p : Printer) (l : List Call) → BytesIn l → Ours p → Each FitsBytes (recordsIn p l)
 unfolding recordsIn BytesIn
 records-fit p [] m o = tt
 records-fit p (started c ∷ l) m o = records-fit (rulesAfter p (started c)) l m (start-ours (c .resolution) (c .autofeed))
-records-fit p (read n c ∷ l) m o =
+records-fit p (read c ∷ l) m o =
     let b = bytes-take (c .back .read) (c .input) (m .0) in
-    each-append FitsBytes (recordsOver p (bytesOf c)) (recordsIn (rulesAfter p (read n c)) l) (steps-fit p (bytesOf c) b o)
-    (records-fit (rulesAfter p (read n c)) l (m .1) (steps-ours p (bytesOf c) b o))
+    each-append FitsBytes (recordsOver p (bytesOf c)) (recordsIn (rulesAfter p (read c)) l) (steps-fit p (bytesOf c) b o)
+    (records-fit (rulesAfter p (read c)) l (m .1) (steps-ours p (bytesOf c) b o))
 
 calls-claim : (p : Printer) (n : ℕ) (k j : Axis) (l : List Call) → BytesIn l → Keeps p n k j
     → Claim (recordsIn p l) (printed (from p n k j) (occurrences p l)) (Rooms (from p n k j) (occurrences p l))
@@ -163,10 +147,10 @@ calls-claim p n k j (started c ∷ l) m h =
     let b = start-begins (c .resolution) (c .autofeed) in
     let w = calls-claim (rulesAfter p (started c)) 0 origin origin l m (b .keeps) in
     rw (b .begins) (record { same = w .same; between = w .between; passedOver = (tt, w .passedOver) })
-calls-claim p n k j (read i c ∷ l) m h =
-    bytes-then p n k j (bytesOf c) (recordsIn (rulesAfter p (read i c)) l) (occurrences (rulesAfter p (read i c)) l)
+calls-claim p n k j (read c ∷ l) m h =
+    bytes-then p n k j (bytesOf c) (recordsIn (rulesAfter p (read c)) l) (occurrences (rulesAfter p (read c)) l)
     (bytes-take (c .back .read) (c .input) (m .0)) h
-    (λ n′ k′ j′ g. calls-claim (rulesAfter p (read i c)) n′ k′ j′ l (m .1) g)
+    (λ n′ k′ j′ g. calls-claim (rulesAfter p (read c)) n′ k′ j′ l (m .1) g)
 
 pub demand-3 : (before : Printer) (c : StartCall) (l : List Call) → Chain before (started c ∷ l) → Demand3 before (started c ∷ l)
 unfolding recordsIn BytesIn occurrences printed

@@ -10,9 +10,10 @@ use borrow.Author.Tests.{le-ltb}
 use Rattle.printer.specs.Records.{recordSize, roomForByte, encodedAll}
 use Rattle.printer.specs.Bounds.{accepted}
 use Rattle.printer.specs.Steps.{stepOf, stepRecords, stateAfter, recordsOver}
-use Rattle.printer.specs.Calls.{Run, stopped, afterByte, runOf, callOf, readingOf, outputOf}
-use Rattle.printer.specs.Cutting.{Piece, answerTo, joinedInput, lastState, joinedOutput, bytesRead, ReadToEnd, Resumed}
+use Rattle.printer.specs.Calls.{Run, stopped, afterByte, runOf, callOf, readingOf, outputOf, ReadCall, ReadingPromise, bytesOf, writtenOf, NewState}
+use Rattle.printer.specs.Cutting.{Readings, joinedInput, lastState, joinedOutput, bytesRead, ReadToEnd, Resumed}
 use Rattle.printer.specs.declared.answers.Answer.{Answer}
+use Rattle.printer.specs.declared.answers.Reading.{Reading}
 use Rattle.printer.specs.declared.records.Record.{Record}
 use Rattle.printer.specs.declared.state.Printer.{Printer}
 use Rattle.printer.proofs.Choices.{pick-elim}
@@ -60,6 +61,28 @@ call-writes p input allowance out =
     written-part (callOf p input allowance (length out) .records) _
     ∙ ap encodedAll (call-steps p input allowance (length out) .records)
 
+-- what a call that kept its promise returned, left and wrote is the rules' steps over the bytes that it read
+pub record Kept (c : ReadCall) : Type 0 where
+  pub back : c .back ≡ readingOf (c .state) (c .input) (c .allowance) (length (c .out)) .report
+  pub new : NewState c
+  pub written : writtenOf c ≡ encodedAll (recordsOver (c .state) (bytesOf c))
+
+pub kept-promise : (c : ReadCall) → ReadingPromise c → Kept c
+kept-promise c h =
+    let v : Reading = readingOf (c .state) (c .input) (c .allowance) (length (c .out)) in
+    let back : c .back ≡ v .report = ap (λ (r : Reading). r .report) (h .gives) in
+    let left : c .left ≡ v .printer = ap (λ (r : Reading). r .printer) (h .gives) in
+    let steps = call-steps (c .state) (c .input) (c .allowance) (length (c .out)) in
+    record {
+      back = back;
+      new = record {
+        state = rw back (left ∙ steps .state);
+        written = rw back (ap (λ (l : List Record). recordSize * length l) (steps .records));
+        output = rw (back, h .output, ← steps .records);
+      };
+      written = rw (back, h .output) (call-writes (c .state) (c .input) (c .allowance) (c .out));
+    }
+
 -- Over an input in two parts
 
 pub state-append : (p : Printer) (x y : List ℕ) → stateAfter p (x ++ y) ≡ stateAfter (stateAfter p x) y
@@ -72,27 +95,25 @@ unfolding stateAfter recordsOver
 records-append p [] y = refl
 records-append p (b ∷ x) y = rw (records-append (stepOf p b) x y, append-assoc)
 
--- Pieces, wherever each call stops
+-- Lists of calls, wherever each stops
 
-pub pieces-state : (p : Printer) (l : List Piece) → lastState p l ≡ stateAfter p (bytesRead p l)
+pub calls-state : (p : Printer) (l : List ReadCall) → Readings p l → lastState p l ≡ stateAfter p (bytesRead l)
 unfolding lastState bytesRead stateAfter
-pieces-state p [] = refl
-pieces-state p (c ∷ l) =
-    let v = answerTo p c in
-    let h = call-steps p (c .bytes) (c .allowance) (length (c .out)) in
-    cc (h .state, pieces-state (v .printer) l, state-append p (take (v .report .read) (c .bytes)) (bytesRead (v .printer) l))
+calls-state p [] h = refl
+calls-state p (c ∷ l) h =
+    let k = kept-promise c (h .0 .1) in
+    cc (h .0 .0, k .new .state, calls-state (c .left) l (h .1), state-append p (bytesOf c) (bytesRead l))
 
-pub pieces-output : (p : Printer) (l : List Piece) → joinedOutput p l ≡ encodedAll (recordsOver p (bytesRead p l))
+pub calls-output : (p : Printer) (l : List ReadCall) → Readings p l → joinedOutput l ≡ encodedAll (recordsOver p (bytesRead l))
 unfolding joinedOutput bytesRead recordsOver encodedAll
-pieces-output p [] = refl
-pieces-output p (c ∷ l) =
-    let v = answerTo p c in
-    let h = call-steps p (c .bytes) (c .allowance) (length (c .out)) in
-    let x : List ℕ = take (v .report .read) (c .bytes) in
-    let y : List ℕ = bytesRead (v .printer) l in
-    cc (h .state, call-writes p (c .bytes) (c .allowance) (c .out), pieces-output (v .printer) l, records-append p x y, encodedAll-append (recordsOver p x) (recordsOver (stateAfter p x) y))
+calls-output p [] h = refl
+calls-output p (c ∷ l) h =
+    let k = kept-promise c (h .0 .1) in
+    let x : List ℕ = bytesOf c in
+    let y : List ℕ = bytesRead l in
+    cc (h .0 .0, k .new .state, k .written, calls-output (c .left) l (h .1), records-append p x y, encodedAll-append (recordsOver p x) (recordsOver (stateAfter p x) y))
 
--- Pieces read to their ends
+-- Calls that read to their ends
 
 run-end : (p : Printer) (input : List ℕ) (allowance room : ℕ) → runOf p input allowance room .answer ≡ Answer.InputUsed
     → take (runOf p input allowance room .read) input ≡ input
@@ -112,11 +133,13 @@ call-end p input allowance room =
     (λ _. run-end p input allowance room)
     (λ _. λ e. let z : _≡_ {A = ℕ} 0 1 = cc in absurd (omega arith))
 
-pub read-to-end : (p : Printer) (l : List Piece) → ReadToEnd p l → bytesRead p l ≡ joinedInput l
+pub read-to-end : (p : Printer) (l : List ReadCall) → Readings p l → ReadToEnd l → bytesRead l ≡ joinedInput l
 unfolding bytesRead joinedInput
-read-to-end p [] h = refl
-read-to-end p (c ∷ l) h =
-    cc (call-end p (c .bytes) (c .allowance) (length (c .out)) (h .0), read-to-end (answerTo p c .printer) l (h .1))
+read-to-end p [] h e = refl
+read-to-end p (c ∷ l) h e =
+    let k = kept-promise c (h .0 .1) .back in
+    let i : bytesOf c ≡ c .input = rw k (call-end (c .state) (c .input) (c .allowance) (length (c .out)) (rw k at (e .0))) in
+    cc (i, read-to-end (c .left) l (h .1) (e .1))
 
 -- with allowance and room enough, a call on an accepted state reads to its end
 run-reads : (p : Printer) (input : List ℕ) (allowance room : ℕ) → length input ≤ allowance → roomForByte * length input ≤ room
@@ -128,17 +151,20 @@ run-reads p (b ∷ l) (suc allowance) room h k =
     rw (le-ltb room roomForByte (omega arith))
     (run-reads (stepOf p b) l allowance (room - recordSize * length (stepRecords p b)) (omega arith) (omega (arith, two-records p b)))
 
-pub enough-reads : (p : Printer) (input : List ℕ) (allowance : ℕ) (out : List ℕ) → accepted p ≡ true
-    → length input ≤ allowance → roomForByte * length input ≤ length out
-    → readingOf p input allowance (length out) .report .answer ≡ Answer.InputUsed
+call-reads : (p : Printer) (input : List ℕ) (allowance room : ℕ) → accepted p ≡ true
+    → length input ≤ allowance → roomForByte * length input ≤ room → callOf p input allowance room .answer ≡ Answer.InputUsed
 unfolding callOf
-enough-reads p input allowance out e h k = rw e (run-reads p input allowance (length out) h k)
+call-reads p input allowance room e h k = rw e (run-reads p input allowance room h k)
+
+pub enough-reads : (c : ReadCall) → ReadingPromise c → accepted (c .state) ≡ true
+    → length (c .input) ≤ c .allowance → roomForByte * length (c .input) ≤ length (c .out) → c .back .answer ≡ Answer.InputUsed
+enough-reads c v e h k = rw (kept-promise c v .back) (call-reads (c .state) (c .input) (c .allowance) (length (c .out)) e h k)
 
 -- calls that are each given the unread rest read the whole input
-pub resumed-reads : (input : List ℕ) (p : Printer) (l : List Piece) → Resumed input p l → bytesRead p l ≡ input
+pub resumed-reads : (input : List ℕ) (l : List ReadCall) → Resumed input l → bytesRead l ≡ input
 unfolding bytesRead
-resumed-reads input p [] h = sym h
-resumed-reads input p (c ∷ l) h =
-    let n : ℕ = answerTo p c .report .read in
-    let e : take n (c .bytes) ≡ take n input = ap (take n) (h .0) in
-    cc (e, resumed-reads (drop n input) (answerTo p c .printer) l (h .1), take-append-drop n input)
+resumed-reads input [] h = sym h
+resumed-reads input (c ∷ l) h =
+    let n : ℕ = c .back .read in
+    let e : bytesOf c ≡ take n input = ap (take n) (h .0) in
+    cc (e, resumed-reads (drop n input) l (h .1), take-append-drop n input)

@@ -1,7 +1,7 @@
 -- The theorems about the rules, each stated once.
 use Prim.Native.Nat.{ℕ, _+_, _*_, _≤_, _<_}
 use mathlib.Core.Path.{_≡_, _∙_, ap, sym}
-use mathlib.Core.Bool.{Bool, true, false}
+use mathlib.Core.Bool.{true, false}
 use mathlib.Core.Logic.{_↔_}
 use mathlib.Core.List.{List, [], _∷_, _++_}
 use native.Mathlib.Omega.{arith}
@@ -13,10 +13,10 @@ use Rattle.printer.specs.Records.{recordSize, roomForByte, encoded, enco
 use Rattle.printer.specs.Bounds.{accepted, Accepted, Typed}
 use Rattle.printer.specs.Steps.{stepRecords, stateAfter, recordsOver, eventsOver}
 use Rattle.printer.specs.Spelling.{pending, speltAll, GenuineEvent}
-use Rattle.printer.specs.Calls.{startOf, callOf, readingOf, outputOf, ExactlyWhen, Refused, StartExactly}
-use Rattle.printer.specs.Cutting.{Piece, joinedInput, lastState, joinedOutput, bytesRead, ReadToEnd, Resumed, Leaves}
+use Rattle.printer.specs.Calls.{StartPromise, StartCall, ReadCall, ReadingPromise, row, numberOf, ThatState, ByTable}
+use Rattle.printer.specs.Cutting.{Readings, joinedInput, lastState, joinedOutput, bytesRead, ReadToEnd, Resumed, Leaves}
 use Rattle.printer.specs.Reckoning.{Motion, sets, Axis, movedAll, Moves, forthOf, backOf, Reckoning, Occurrence, reckonAll, acrossMotion, downMotion, motions}
-use Rattle.printer.specs.Demand3.{StartCall, Call, started, Chain, Demand3}
+use Rattle.printer.specs.Demand3.{Call, started, Chain, Demand3}
 use Rattle.printer.specs.Cases.{CheckedByHand}
 use Rattle.printer.specs.declared.answers.Answer.{Answer}
 use Rattle.printer.specs.declared.records.Record.{Record}
@@ -28,9 +28,9 @@ use Rattle.printer.proofs.Few.{two-records}
 use Rattle.printer.proofs.Spelling.{steps-spell, steps-genuine}
 use Rattle.printer.proofs.Bytes.{decoded-encoded, decodedAll-encoded}
 use Rattle.printer.proofs.Writing.{steps-fit}
-use Rattle.printer.proofs.Cuts.{pieces-state, pieces-output, read-to-end, resumed-reads, enough-reads}
+use Rattle.printer.proofs.Cuts.{calls-state, calls-output, read-to-end, resumed-reads, enough-reads}
 use Rattle.printer.proofs.LastSet.{last-set, across-moved, down-moved}
-use Rattle.printer.proofs.Answering.{call-exactly, call-refused, start-exactly}
+use Rattle.printer.proofs.Answering.{read-by-table, refused-row, start-by-table}
 use Rattle.printer.proofs.CallLists.{demand-3}
 use Rattle.printer.proofs.ByHand.{checked-by-hand}
 
@@ -86,49 +86,48 @@ spelling p input = steps-spell p input
 pub genuine : (p : Printer) (input : List ℕ) → Each GenuineEvent (eventsOver p input)
 genuine p input = steps-genuine p input
 
--- 4. Demand 2, cutting
+-- 4. Demand 2, cutting: over calls that kept their promises, each with the state that the one before returned or left
 
--- pieces leave what the rules leave over the bytes that their calls read, wherever each call stops
-pub stopped-anywhere : (p : Printer) (l : List Piece) → Leaves p l (bytesRead p l)
-stopped-anywhere p l = record { state = pieces-state p l; output = pieces-output p l }
+-- calls leave what the rules leave over the bytes that they read, wherever each of them stops
+pub stopped-anywhere : (p : Printer) (l : List ReadCall) → Readings p l → Leaves p l (bytesRead l)
+stopped-anywhere p l h = record { state = calls-state p l h; output = calls-output p l h }
 
 -- calls resumed after answers 1 and 2, each with the unread rest, leave what the rules leave over the whole input
-pub resumed : (p : Printer) (input : List ℕ) (l : List Piece) → Resumed input p l → Leaves p l input
-resumed p input l h = rw (resumed-reads input p l h) at (stopped-anywhere p l)
+pub resumed : (p : Printer) (input : List ℕ) (l : List ReadCall) → Readings p l → Resumed input l → Leaves p l input
+resumed p input l h r = rw (resumed-reads input l r) at (stopped-anywhere p l h)
 
 -- pieces each read to their end leave what the rules leave over the whole input
-pub pieces : (p : Printer) (l : List Piece) → ReadToEnd p l → Leaves p l (joinedInput l)
-pieces p l h = rw (read-to-end p l h) at (stopped-anywhere p l)
+pub pieces : (p : Printer) (l : List ReadCall) → Readings p l → ReadToEnd l → Leaves p l (joinedInput l)
+pieces p l h r = rw (read-to-end p l h r) at (stopped-anywhere p l h)
 
 -- so two ways to cut an input agree
-pub cutting : (p : Printer) (l m : List Piece) → joinedInput l ≡ joinedInput m → ReadToEnd p l → ReadToEnd p m
-    → (lastState p l ≡ lastState p m) × (joinedOutput p l ≡ joinedOutput p m)
-cutting p l m e h k =
-    let a = pieces p l h in
-    let b = pieces p m k in
+pub cutting : (p : Printer) (l m : List ReadCall) → Readings p l → Readings p m → joinedInput l ≡ joinedInput m
+    → ReadToEnd l → ReadToEnd m → (lastState p l ≡ lastState p m) × (joinedOutput l ≡ joinedOutput m)
+cutting p l m h k e r s =
+    let a = pieces p l h r in
+    let b = pieces p m k s in
     (a .state ∙ ap (stateAfter p) e ∙ sym (b .state), cc (a .output, b .output, e))
 
 -- and a call with allowance and room enough does read to its end
-pub reads-to-end : (p : Printer) (input : List ℕ) (allowance : ℕ) (out : List ℕ) → accepted p ≡ true
-    → length input ≤ allowance → roomForByte * length input ≤ length out
-    → readingOf p input allowance (length out) .report .answer ≡ Answer.InputUsed
-reads-to-end p input allowance out e h k = enough-reads p input allowance out e h k
+pub reads-to-end : (c : ReadCall) → ReadingPromise c → accepted (c .state) ≡ true
+    → length (c .input) ≤ c .allowance → roomForByte * length (c .input) ≤ length (c .out)
+    → c .back .answer ≡ Answer.InputUsed
+reads-to-end c v e h k = enough-reads c v e h k
 
--- 5. The answers
+-- 5. The answers, of calls that kept their promises
 
--- 0, 1 and 2 come exactly when the paper says
-pub answers : (p : Printer) (input : List ℕ) (allowance room : ℕ) → accepted p ≡ true
-    → ExactlyWhen (length input) allowance room (callOf p input allowance room)
-answers p input allowance room e = call-exactly p input allowance room e
+-- a reading call's answer is by the table: it comes exactly when its row says, with what its row says
+pub answers : (c : ReadCall) → ReadingPromise c → ByTable (λ (a : Answer). row a .reading c) (c .back .answer)
+answers c h = read-by-table c h
 
--- 4 hands the state back and leaves the output
-pub refuses : (p : Printer) (input : List ℕ) (allowance : ℕ) (out : List ℕ) → accepted p ≡ false
-    → Refused p out (outputOf p input allowance out) (readingOf p input allowance (length out))
-refuses p input allowance out e = call-refused p input allowance out e
+-- so a state outside the bounds is refused: 4, with that state, counts 0, output untouched
+pub refuses : (c : ReadCall) → ReadingPromise c → accepted (c .state) ≡ false → (numberOf (c .back .answer) ≡ 4) × ThatState c
+refuses c h e = let r = refused-row c h e in (ap numberOf (r .0), r .1)
 
--- a start answers 0 or 3, with the power-on state that the paper names
-pub starts : (resolution : ℕ) (autofeed : Bool) → StartExactly resolution autofeed (startOf resolution autofeed)
-starts resolution autofeed = start-exactly resolution autofeed
+-- and a start's answer is by the table: 0 with the power-on state, or 3
+pub starts : (c : StartCall) → StartPromise (c .resolution) (c .autofeed) (c .back)
+    → ByTable (λ (a : Answer). row a .starting c) (c .back .answer)
+starts c h = start-by-table c h
 
 -- 6. Demand 3
 

@@ -1,15 +1,15 @@
 -- Document 01, 'Calls and their numbers': the start, the reading calls, and what each of them promises.
 use Prim.Native.Nat.{ℕ, zero, suc, _+_, _*_, _-_, _<_}
 use mathlib.Core.Path.{_≡_}
-use mathlib.Core.Bool.{Bool, false}
+use mathlib.Core.Bool.{Bool, true, false}
 use mathlib.Core.List.{List, [], _∷_, _++_}
 use mathlib.Core.Logic.{_⊎_}
 use lib.Dec.{ltb, eqb}
-use lib.ListN.{length, drop}
+use lib.ListN.{length, take, drop}
 use Rattle.printer.specs.Tools.{pick}
 use Rattle.printer.specs.PowerOn.{powerOn}
 use Rattle.printer.specs.Records.{recordSize, roomForByte, encodedAll}
-use Rattle.printer.specs.Steps.{stepOf, stepRecords}
+use Rattle.printer.specs.Steps.{stepOf, stepRecords, stateAfter, recordsOver}
 use Rattle.printer.specs.Bounds.{accepted}
 use Rattle.printer.specs.declared.answers.Answer.{Answer}
 use Rattle.printer.specs.declared.answers.Report.{Report}
@@ -20,14 +20,6 @@ use Rattle.printer.specs.declared.records.Record.{Record}
 use Rattle.printer.specs.declared.settings.Setup.{Setup}
 use Rattle.printer.specs.declared.state.Printer.{Printer}
 use Rattle.printer.specs.declared.units.Resolution.{Resolution}
-
--- the numbers of the answers
-abbrev pub numberOf : Answer → ℕ
-numberOf Answer.InputUsed = 0
-numberOf Answer.AllowanceUsed = 1
-numberOf Answer.OutputFull = 2
-numberOf Answer.SettingsRefused = 3
-numberOf Answer.StateRefused = 4
 
 -- The start
 
@@ -105,35 +97,134 @@ pub record ReadPromise
   pub gives : back ≡ readingOf p input allowance (length out)
   pub output : after ≡ outputOf p input allowance out
 
--- the same of the call to which the state is lent, with the state that it leaves
-pub record LentPromise
-    (p : Printer) (input : List ℕ) (allowance : ℕ) (out : List ℕ) (back : Report) (left : Printer) (after : List ℕ) : Type 0 where
-  pub gives : back ≡ readingOf p input allowance (length out) .report
-  pub state : left ≡ readingOf p input allowance (length out) .printer
-  pub output : after ≡ outputOf p input allowance out
+-- the same of the call to which the state is lent, of what it reports and the state that it leaves
+abbrev pub LentPromise : Printer → (input : List ℕ) → (allowance : ℕ) → (out : List ℕ) → Report → (left : Printer) → (after : List ℕ) → Type 0
+LentPromise p input allowance out back left after =
+    ReadPromise p input allowance out (record { report = back; printer = left }) after
 
--- The table of answers, in the paper's numbers
+-- Calls with what came back
 
--- 0: input used up. 1: allowance used, input left. 2: under 28 output bytes left, input and allowance left.
-abbrev pub ExactlyWhen : (bytes allowance room : ℕ) → Run → Type 0
-ExactlyWhen bytes allowance room v =
-    ((numberOf (v .answer) ≡ 0) × (v .read ≡ bytes))
-    ⊎ (((numberOf (v .answer) ≡ 1) × (v .read ≡ allowance) × (v .read < bytes))
-    ⊎ ((numberOf (v .answer) ≡ 2) × (v .read < allowance) × (v .read < bytes) × (room < 14 * length (v .records) + 28)))
+-- what a start was given and gave back
+pub record StartCall : Type 0 where
+  pub resolution : ℕ
+  pub autofeed : Bool
+  pub back : Started
 
--- 4: that state, counts 0, output untouched
-pub record Refused (p : Printer) (out after : List ℕ) (back : Reading) : Type 0 where
-  pub number : numberOf (back .report .answer) ≡ 4
-  pub state : back .printer ≡ p
-  pub read : back .report .read ≡ 0
-  pub written : back .report .written ≡ 0
-  pub output : after ≡ out
+-- the state goes by value, or is lent
+pub data Manner : Type 0 where
+  byValue lent : Manner
 
--- a start: 0 with the power-on state of its settings, waiting for nothing; or 3 with that for 300, automatic line feed off
-pub record StartExactly (resolution : ℕ) (autofeed : Bool) (back : Started) : Type 0 where
-  pub at300 : resolution ≡ 300 → (numberOf (back .answer) ≡ 0) × (back .printer ≡ powerOn (setup Resolution.Dots300 autofeed))
-  pub at203 : resolution ≡ 203 → (numberOf (back .answer) ≡ 0) × (back .printer ≡ powerOn (setup Resolution.Dots203 autofeed))
-  pub else :
-      (resolution ≡ 300 → ⊥) → (resolution ≡ 203 → ⊥)
-      → (numberOf (back .answer) ≡ 3) × (back .printer ≡ powerOn (setup Resolution.Dots300 false))
-  pub waiting : back .printer .waiting ≡ Waiting.Nothing
+-- a reading call: the state it got, input, allowance, the output before and after, what came back, and the state returned or left
+pub record ReadCall : Type 0 where
+  pub manner : Manner
+  pub state : Printer
+  pub input : List ℕ
+  pub allowance : ℕ
+  pub out : List ℕ
+  pub back : Report
+  pub left : Printer
+  pub after : List ℕ
+
+-- it met its promise: `ReadPromise` of the call by value, `LentPromise` of the other, which are one and the same
+abbrev pub ReadingPromise : ReadCall → Type 0
+ReadingPromise c = LentPromise (c .state) (c .input) (c .allowance) (c .out) (c .back) (c .left) (c .after)
+
+-- the bytes that it read, and those that it wrote
+abbrev pub bytesOf : ReadCall → List ℕ
+bytesOf c = take (c .back .read) (c .input)
+
+abbrev pub writtenOf : ReadCall → List ℕ
+writtenOf c = take (c .back .written) (c .after)
+
+-- The table of answers
+
+-- what stands there for a call: exactly when the answer comes; what comes back, is left
+pub record Cell : Type 1 where
+  pub when : Type 0
+  pub back : Type 0
+
+abbrev pub cell : (when back : Type 0) → Cell
+cell when back = record { when = when; back = back }
+
+abbrev pub never : Cell
+never = cell ⊥ ⊥
+
+-- a row: its number, and what stands there for a start and for a reading call
+pub record Row : Type 1 where
+  pub number : ℕ
+  pub starting : StartCall → Cell
+  pub reading : ReadCall → Cell
+
+abbrev pub InBounds : ReadCall → Type 0
+InBounds c = accepted (c .state) ≡ true
+
+abbrev pub InputLeft : ReadCall → Type 0
+InputLeft c = c .back .read < length (c .input)
+
+abbrev pub AllowanceLeft : ReadCall → Type 0
+AllowanceLeft c = c .back .read < c .allowance
+
+-- new state, counts read and written; output past the written count is untouched
+pub record NewState (c : ReadCall) : Type 0 where
+  pub state : c .left ≡ stateAfter (c .state) (bytesOf c)
+  pub written : c .back .written ≡ recordSize * length (recordsOver (c .state) (bytesOf c))
+  pub output : c .after ≡ encodedAll (recordsOver (c .state) (bytesOf c)) ++ drop (c .back .written) (c .out)
+
+-- that state, counts 0, output untouched
+pub record ThatState (c : ReadCall) : Type 0 where
+  pub state : c .left ≡ c .state
+  pub read : c .back .read ≡ 0
+  pub written : c .back .written ≡ 0
+  pub output : c .after ≡ c .out
+
+-- an accepted start: the power-on state, waiting for nothing
+pub record PowerOnState (c : StartCall) : Type 0 where
+  pub at300 : c .resolution ≡ 300 → c .back .printer ≡ powerOn (setup Resolution.Dots300 (c .autofeed))
+  pub at203 : c .resolution ≡ 203 → c .back .printer ≡ powerOn (setup Resolution.Dots203 (c .autofeed))
+  pub waiting : c .back .printer .waiting ≡ Waiting.Nothing
+
+abbrev pub row : Answer → Row
+-- input used up; or an accepted start
+row Answer.InputUsed =
+    record {
+      number = 0;
+      starting = λ c. cell ((c .resolution ≡ 300) ⊎ (c .resolution ≡ 203)) (PowerOnState c);
+      reading = λ c. cell (InBounds c × (c .back .read ≡ length (c .input))) (NewState c);
+    }
+-- allowance used, input left
+row Answer.AllowanceUsed =
+    record {
+      number = 1;
+      starting = λ c. never;
+      reading = λ c. cell (InBounds c × (c .back .read ≡ c .allowance) × InputLeft c) (NewState c);
+    }
+-- under 28 output bytes left, input and allowance left
+row Answer.OutputFull =
+    record {
+      number = 2;
+      starting = λ c. never;
+      reading = λ c.
+          cell (InBounds c × (length (c .out) < c .back .written + 28) × InputLeft c × AllowanceLeft c) (NewState c);
+    }
+-- starting: resolution neither 300 nor 203; power-on state for 300, automatic line feed off
+row Answer.SettingsRefused =
+    record {
+      number = 3;
+      starting = λ c.
+          cell ((c .resolution ≡ 300 → ⊥) × (c .resolution ≡ 203 → ⊥))
+          (c .back .printer ≡ powerOn (setup Resolution.Dots300 false));
+      reading = λ c. never;
+    }
+-- state outside the bounds
+row Answer.StateRefused =
+    record { number = 4; starting = λ c. never; reading = λ c. cell (accepted (c .state) ≡ false) (ThatState c) }
+
+-- the number of an answer
+abbrev pub numberOf : Answer → ℕ
+numberOf a = row a .number
+
+-- an answer is by the table: it comes when its row says so and no other row does, with what its row says
+pub record ByTable (cells : Answer → Cell) (a : Answer) : Type 0 where
+  pub when : cells a .when
+  pub only : (b : Answer) → cells b .when → a ≡ b
+  pub back : cells a .back

@@ -1,56 +1,48 @@
--- Demand 2, cutting: an input read in pieces, each by a call of its own.
+-- Demand 2, cutting: an input read in pieces, each by a reading call; the calls with what came back.
 use Prim.Native.Nat.{ℕ}
 use mathlib.Core.Path.{_≡_}
 use mathlib.Core.List.{List, [], _∷_, _++_}
-use lib.ListN.{length, take, drop}
+use lib.ListN.{drop}
+use Rattle.printer.specs.Tools.{Each}
 use Rattle.printer.specs.Records.{encodedAll}
 use Rattle.printer.specs.Steps.{stateAfter, recordsOver}
-use Rattle.printer.specs.Calls.{readingOf, outputOf}
+use Rattle.printer.specs.Calls.{ReadCall, ReadingPromise, bytesOf, writtenOf}
 use Rattle.printer.specs.declared.answers.Answer.{Answer}
-use Rattle.printer.specs.declared.answers.Reading.{Reading}
 use Rattle.printer.specs.declared.state.Printer.{Printer}
 
--- a piece of the input, with the allowance and the output of its call
-pub record Piece : Type 0 where
-  pub bytes : List ℕ
-  pub allowance : ℕ
-  pub out : List ℕ
+-- each call met its promise, and got the state that the call before it returned or left
+abbrev pub Readings : Printer → List ReadCall → Type 0
+Readings held [] = Unit
+Readings held (c ∷ l) = ((c .state ≡ held) × ReadingPromise c) × Readings (c .left) l
 
-abbrev pub answerTo : Printer → Piece → Reading
-answerTo p c = readingOf p (c .bytes) (c .allowance) (length (c .out))
+-- the state that the last call returned or left
+unfoldable pub lastState : Printer → List ReadCall → Printer
+lastState held [] = held
+lastState held (c ∷ l) = lastState (c .left) l
 
--- the input that the pieces are cut from
-unfoldable pub joinedInput : List Piece → List ℕ
+-- the input that the calls were given, the bytes that they read of it, and the bytes that they wrote, joined
+unfoldable pub joinedInput : List ReadCall → List ℕ
 joinedInput [] = []
-joinedInput (c ∷ l) = c .bytes ++ joinedInput l
+joinedInput (c ∷ l) = c .input ++ joinedInput l
 
--- each call gets the state of the one before: the last state, the output bytes joined, the bytes read
-unfoldable pub lastState : Printer → List Piece → Printer
-lastState p [] = p
-lastState p (c ∷ l) = lastState (answerTo p c .printer) l
+unfoldable pub bytesRead : List ReadCall → List ℕ
+bytesRead [] = []
+bytesRead (c ∷ l) = bytesOf c ++ bytesRead l
 
-unfoldable pub joinedOutput : Printer → List Piece → List ℕ
-joinedOutput p [] = []
-joinedOutput p (c ∷ l) =
-    take (answerTo p c .report .written) (outputOf p (c .bytes) (c .allowance) (c .out))
-    ++ joinedOutput (answerTo p c .printer) l
+unfoldable pub joinedOutput : List ReadCall → List ℕ
+joinedOutput [] = []
+joinedOutput (c ∷ l) = writtenOf c ++ joinedOutput l
 
-unfoldable pub bytesRead : Printer → List Piece → List ℕ
-bytesRead p [] = []
-bytesRead p (c ∷ l) = take (answerTo p c .report .read) (c .bytes) ++ bytesRead (answerTo p c .printer) l
-
--- each piece is read to its end
-abbrev pub ReadToEnd : Printer → List Piece → Type 0
-ReadToEnd p [] = Unit
-ReadToEnd p (c ∷ l) = (answerTo p c .report .answer ≡ Answer.InputUsed) × ReadToEnd (answerTo p c .printer) l
+-- each call read its piece to the end
+abbrev pub ReadToEnd : List ReadCall → Type 0
+ReadToEnd l = Each (λ (c : ReadCall). c .back .answer ≡ Answer.InputUsed) l
 
 -- each call is given what the ones before left unread, until nothing is left
-abbrev pub Resumed : List ℕ → Printer → List Piece → Type 0
-Resumed input p [] = input ≡ []
-Resumed input p (c ∷ l) =
-    (c .bytes ≡ input) × Resumed (drop (answerTo p c .report .read) input) (answerTo p c .printer) l
+abbrev pub Resumed : (input : List ℕ) → List ReadCall → Type 0
+Resumed input [] = input ≡ []
+Resumed input (c ∷ l) = (c .input ≡ input) × Resumed (drop (c .back .read) input) l
 
--- what pieces leave: the last state, and the output joined
-pub record Leaves (p : Printer) (l : List Piece) (input : List ℕ) : Type 0 where
-  pub state : lastState p l ≡ stateAfter p input
-  pub output : joinedOutput p l ≡ encodedAll (recordsOver p input)
+-- what calls leave: the last state, and the output joined, are the rules' over these bytes
+pub record Leaves (p : Printer) (l : List ReadCall) (bytes : List ℕ) : Type 0 where
+  pub state : lastState p l ≡ stateAfter p bytes
+  pub output : joinedOutput l ≡ encodedAll (recordsOver p bytes)

@@ -1,79 +1,43 @@
 -- Demand 3 in its terms: a list of calls with what came back, and the one claim about it.
 use Prim.Native.Nat.{ℕ, _+_, _≤_, _<_}
-use mathlib.Core.Bool.{Bool}
 use mathlib.Core.Path.{_≡_}
 use mathlib.Core.List.{List, [], _∷_, _++_, map}
-use lib.ListN.{length, take}
+use lib.ListN.{length}
 use Rattle.printer.specs.Tools.{Each, Bytes}
 use Rattle.printer.specs.Units.{rounded}
 use Rattle.printer.specs.Records.{decodedAll}
 use Rattle.printer.specs.Steps.{stateAfter, eventsOver}
-use Rattle.printer.specs.Calls.{numberOf, startOf, readingOf, outputOf, StartPromise, ReadPromise, LentPromise}
+use Rattle.printer.specs.Calls.{numberOf, startOf, readingOf, outputOf, StartPromise, StartCall, ReadCall, ReadingPromise, bytesOf, writtenOf}
 use Rattle.printer.specs.Widths.{advance}
 use Rattle.printer.specs.Performing.{done, passed, inside, automatic}
 use Rattle.printer.specs.Reckoning.{Reckoning, reckonNext, Occurrence, start, event, begun, Prints, letter, imageByte, neither, printing, Printed, printed, exact}
-use Rattle.printer.specs.declared.answers.Report.{Report}
-use Rattle.printer.specs.declared.answers.Reading.{Reading}
-use Rattle.printer.specs.declared.answers.Started.{Started}
 use Rattle.printer.specs.declared.records.Mark.{Mark}
 use Rattle.printer.specs.declared.records.Record.{Record}
 use Rattle.printer.specs.declared.state.Printer.{Printer}
 
 -- Calls with what came back
 
--- what a start was given and gave back
-pub record StartCall : Type 0 where
-  pub resolution : ℕ
-  pub autofeed : Bool
-  pub back : Started
-
--- a reading call: the state it got, input, allowance, the output before and after, what came back, and the state returned or left
-pub record ReadCall : Type 0 where
-  pub state : Printer
-  pub input : List ℕ
-  pub allowance : ℕ
-  pub out : List ℕ
-  pub back : Report
-  pub left : Printer
-  pub after : List ℕ
-
--- the state goes by value, or is lent
-pub data Manner : Type 0 where
-  byValue lent : Manner
-
 pub data Call : Type 0 where
   started : StartCall → Call
-  read : Manner → ReadCall → Call
-
--- what the call by value gave back, put together
-abbrev pub readingBack : ReadCall → Reading
-readingBack c =
-    record { report = c .back; printer = c .left }
-
-abbrev pub ReadingPromise : Manner → ReadCall → Type 0
-ReadingPromise byValue c = ReadPromise (c .state) (c .input) (c .allowance) (c .out) (readingBack c) (c .after)
-ReadingPromise lent c = LentPromise (c .state) (c .input) (c .allowance) (c .out) (c .back) (c .left) (c .after)
+  read : ReadCall → Call
 
 -- each call met its promise, and got the state that the call before it returned or left; input is bytes
 abbrev pub Chain : Printer → List Call → Type 0
 Chain held [] = Unit
 Chain held (started c ∷ l) = StartPromise (c .resolution) (c .autofeed) (c .back) × Chain (c .back .printer) l
-Chain held (read m c ∷ l) = ((c .state ≡ held) × Bytes (c .input) × ReadingPromise m c) × Chain (c .left) l
+Chain held (read c ∷ l) = ((c .state ≡ held) × Bytes (c .input) × ReadingPromise c) × Chain (c .left) l
 
 -- The reckoning fed: a start's settings; a reading call's input and how many of its first bytes were read. The rules' steps over
 -- these bytes, from its own power-on, tell the events; no state that a call gave back is read.
 
-abbrev pub bytesOf : ReadCall → List ℕ
-bytesOf c = take (c .back .read) (c .input)
-
 -- the rules' own state after a call
 abbrev pub rulesAfter : Printer → Call → Printer
 rulesAfter p (started c) = startOf (c .resolution) (c .autofeed) .printer
-rulesAfter p (read m c) = stateAfter p (bytesOf c)
+rulesAfter p (read c) = stateAfter p (bytesOf c)
 
 abbrev pub occurrencesAt : Printer → Call → List Occurrence
 occurrencesAt p (started c) = start (c .resolution) ∷ []
-occurrencesAt p (read m c) = map event (eventsOver p (bytesOf c))
+occurrencesAt p (read c) = map event (eventsOver p (bytesOf c))
 
 unfoldable pub occurrences : Printer → List Call → List Occurrence
 occurrences p [] = []
@@ -84,7 +48,7 @@ occurrences p (c ∷ l) = occurrencesAt p c ++ occurrences (rulesAfter p c) l
 -- answer numbers, counts, states and written records are the rules' own
 abbrev pub OwnCall : Printer → Call → Type 0
 OwnCall p (started c) = c .back ≡ startOf (c .resolution) (c .autofeed)
-OwnCall p (read m c) =
+OwnCall p (read c) =
     (c .state ≡ p)
     × (c .back ≡ readingOf p (c .input) (c .allowance) (length (c .out)) .report)
     × (c .left ≡ stateAfter p (bytesOf c))
@@ -97,12 +61,12 @@ Own p (c ∷ l) = OwnCall p c × Own (rulesAfter p c) l
 -- answer 4 does not come
 abbrev pub NotFour : Call → Type 0
 NotFour (started c) = numberOf (c .back .answer) ≤ 3
-NotFour (read m c) = numberOf (c .back .answer) ≤ 3
+NotFour (read c) = numberOf (c .back .answer) ≤ 3
 
 -- the bytes written, joined over all calls
 abbrev pub writtenBy : Call → List ℕ
 writtenBy (started c) = []
-writtenBy (read m c) = take (c .back .written) (c .after)
+writtenBy (read c) = writtenOf c
 
 unfoldable pub joined : List Call → List ℕ
 joined [] = []

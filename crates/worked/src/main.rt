@@ -1,10 +1,11 @@
-// A program: runs worked cases, and writes the records of each as lines of hex, with an empty line after each case.
+// A program: runs worked cases, and writes the records of each as lines of hex, or that its start is refused, and an empty line.
 //
 // A case is: dots an inch (two bytes, low byte first), automatic line feed (0 or 1), the length of the input (two bytes, low byte first), the
 // input. It is read by one call, and again by a call for each byte.
 use libc::STDIN_FILENO;
 use libc::STDOUT_FILENO;
 use lines::hex;
+use lines::hex_lines;
 use printer::answers::Answer;
 use printer::records::Record;
 use printer::state::Printer;
@@ -84,7 +85,8 @@ fn show(printer: Printer, input: &[u8]) {
     if !cut_agrees(printer, input, &records[0..written]) {
         say(b"cut differs\n");
     }
-    listing::print(&records[0..written], &mut text);
+    let size = hex_lines(&records[0..written], &mut text);
+    say(&text[0..size]);
     say(b"\n");
 }
 
@@ -94,7 +96,7 @@ fn run(dots: u32, autofeed: bool, input: &[u8]) {
     let printer = started.printer;
     match answer {
         Answer::InputUsed => show(printer, input),
-        _ => say(b"start refused\n"),
+        _ => say(b"start refused\n\n"),
     }
 }
 

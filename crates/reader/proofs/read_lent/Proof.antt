@@ -165,11 +165,7 @@ module _ {M : Type 1} (𝓤 : URA M) (H : Heap 𝓤) (A : Atoms 𝓤) (W : Given
       suffices ! _ (ends-at 𝓤 H A f.ended stayed (f.clauses 𝓤 H A at-mem run) W
       (((κ, (κ₁, (κ₂, tt))), (q, (q₁, (q₂, tt))), bounds, x, at), tt) (reportVal (r .report)) (r .report)
       (r .printer, (tt, (tt, (zs, tt)))) (tt, (tt, (tt, (l, tt))))) $
-      says ! (record {
-        gives = ap (λ (s : Reading). s .report) (e .gives);
-        state = ap (λ (s : Reading). s .printer) (e .gives);
-        output = e .output;
-      }) $
+      says ! e $
       move ! (2 ∷ 3 ∷ []) $ join ! $ frame ! $
       feqI ! (List Val) (vptr b o ∷ []) (vptr b o ∷ []) refl $ fjoin3 ! $ nothing ! $ move ! (2 ∷ 0 ∷ []) $ fjoin ! $
       nothing ! $ fjoin ! $ nothing ! $ fjoin ! $ move ! (1 ∷ 0 ∷ []) $ fjoin ! $ frame ! $
