@@ -43,13 +43,6 @@ impl Width {
         self.wide | self.wideonce
     }
 
-    // A letter's base, before intercharacter spacing and double width.
-    pub fn base(self) -> Units
-        ensures { λ r. ⌜ r ≡ units (base (self .pitch) (self .reduced) (self .proportional)) ⌝ }
-    {
-        Units(self.base_units())
-    }
-
     // How far a letter moves the position.
     pub fn advance(self) -> Units
         ensures { λ r. ⌜ r ≡ units (advance self) ⌝ }
