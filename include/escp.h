@@ -1,7 +1,7 @@
 /*
  * Ierbulosc: reads the ESC/P legacy page language. Bytes come in, placed records of 14 bytes come out.
  *
- * The library is target/staticlib/libierbulosc.a, made by `rt staticlib ierbulosc`, for x86-64. Its functions keep
+ * The library is target/staticlib/libierbulosc.a, made by `rt staticlib ierbulosc`, for x86-64 Linux. Its functions keep
  * nothing between calls, allocate nothing and always return. What they do is proved in crates/ierbulosc and the
  * crates below it; that this header says the same as crates/ierbulosc/src is for its reader to compare.
  *
@@ -101,22 +101,26 @@ typedef struct escp_place {
     uint32_t down;   /* from the top of the page; below the edge */
 } escp_place;
 
-/* Horizontal tab stops, as columns. The first `count` are held, ascending. */
+/* Horizontal tab stops, as columns. The first `count` are held: from 1 to 255, ascending strictly. */
 typedef struct escp_columns {
     uint8_t stops[ESCP_COLUMNS];
     size_t count;
 } escp_columns;
 
-/* Vertical tab stops, as distances from the top. The first `count` are held, ascending. */
+/* Vertical tab stops, as distances from the top. The first `count` are held: from 1 to 79199, ascending strictly. */
 typedef struct escp_lines {
     uint32_t stops[ESCP_LINES];
     size_t count;
 } escp_lines;
 
+/*
+ * The stops in force and those of a list that has not ended. The gathered ones are looked at only while such a list is
+ * waited for; the last of them is then not above the list byte before, or that byte times the line amount.
+ */
 typedef struct escp_stops {
     escp_columns columns;          /* in force */
     escp_lines lines;              /* in force */
-    uint8_t line_set;              /* flag: vertical stops were set, though perhaps to none */
+    uint8_t line_set;              /* flag: vertical stops were set, though perhaps to none; 0: there are none */
     escp_columns gathered_columns; /* of an ESC D list that has not ended */
     escp_lines gathered_lines;     /* of an ESC B list that has not ended */
 } escp_stops;
@@ -161,7 +165,7 @@ typedef struct escp_counts {
 
 /*
  * Starts a printer of so many dots to the inch: 300, or 203 (203 across and 200 down). `auto_feed` has CR feed a line.
- * What *state held before does not matter.
+ * What *state held before does not matter. state may not be NULL.
  *
  * 0: *state is the power-on state of these settings.
  * 3: dots is neither 300 nor 203; *state is the power-on state for 300 dots, auto_feed off.
@@ -193,8 +197,9 @@ uint8_t escp_start(escp_state *state, uint32_t dots, bool auto_feed);
  *    12  2  advance, in units
  * TX is a letter, with all fields. IM is a byte of image data, with column, row, byte and advance. LN is a line fed or a
  * page turned: the new row, and in byte the pages turned, or 255 for a new top. CL: the TX and IM since the last LN, CL or
- * start are void. NO is a byte or command passed over: its byte, and in style the reason: 1 unlisted; 2 argument or
- * setting not allowed; 3 past margin, page or stop limits; 4 letter or image column does not fit; 5 no stop to the right.
+ * start are void. NO is what was passed over: in byte the letter, image byte or list byte, else the control byte or the
+ * escape's second byte, as received; in style the reason: 1 unlisted; 2 argument or setting not allowed; 3 past margin,
+ * page or stop limits; 4 letter or image column does not fit; 5 no stop to the right.
  * Fields that are not named are 0.
  * Style bits, from the lowest: bold, double strike, italic, underline, superscript, subscript, double width, double
  * height, two bits of the ESC q number, proportional, reduced, italic code table, download set.

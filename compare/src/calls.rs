@@ -118,7 +118,8 @@ fn a_start(random: &mut Random) -> Call {
     }
 }
 
-/// A reading call of what is unread and some new phrases.
+/// A reading call of what is unread and some new phrases, or of a beginning of
+/// it, cut anywhere.
 pub fn a_reading(random: &mut Random, unread: &mut Vec<u8>) -> Call {
     let phrases = random.pick(&[0, 1, 1, 2, 4, 10]);
     if unread.len() < 3_000 {
@@ -126,10 +127,14 @@ pub fn a_reading(random: &mut Random, unread: &mut Vec<u8>) -> Call {
             phrase(random, unread);
         }
     }
+    let piece = match random.percent(25) {
+        true => random.below(unread.len() as u64 + 1) as usize,
+        false => unread.len(),
+    };
     Call::Read {
-        input: unread.clone(),
-        allowance: an_allowance(random, unread.len()),
-        room: a_room(random, unread.len()),
+        input: unread[..piece].to_vec(),
+        allowance: an_allowance(random, piece),
+        room: a_room(random, piece),
     }
 }
 

@@ -4,6 +4,7 @@
 use crate::random::Random;
 
 const ESC: u8 = 0x1B;
+const SI: u8 = 0x0F;
 const CONTROLS: [u8; 10] = [8, 9, 10, 11, 12, 13, 14, 15, 18, 20];
 const PLAIN_ESCAPES: &[u8] = b"022OPPMMggEFGH4455T6677\x0E\x0F\x0E\x0F";
 const ONE_ARGUMENT: &[u8] = b"33A++JJJNNllQQpSxWWw-%tRqk  !!";
@@ -12,6 +13,17 @@ const ONE_ARGUMENT: &[u8] = b"33A++JJJNNllQQpSxWWw-%tRqk  !!";
 const EDGES: [u8; 24] = [
     0, 1, 2, 3, 4, 5, 6, 12, 13, 14, 0x30, 0x31, 0x32, 0x40, 0x41, 79, 80, 84, 85, 86, 126, 127,
     128, 255,
+];
+
+/// Line amounts and numbers of lines whose products are 79,180, 79,200,
+/// 79,210, 3,580, 3,600 and 3,610.
+const NEAR_PAGES: [(u8, u8, u8); 6] = [
+    (b'+', 74, 107),
+    (b'3', 36, 110),
+    (b'+', 89, 89),
+    (b'3', 179, 1),
+    (b'3', 180, 1),
+    (b'+', 19, 19),
 ];
 
 /// An input of so many phrases.
@@ -196,9 +208,10 @@ fn stop_list(random: &mut Random, to: &mut Vec<u8>) {
     }
 }
 
-/// Page lengths, skips and line amounts near their limits, then feeds.
+/// Page lengths, skips, line amounts and a right margin near their limits, then
+/// feeds.
 fn page(random: &mut Random, to: &mut Vec<u8>) {
-    match random.below(5) {
+    match random.below(7) {
         0 => {
             let inches = random.pick(&[0, 1, 1, 1, 2, 2, 11, 21, 22, 23, 128, 255]);
             to.extend([ESC, b'C', 0, inches]);
@@ -214,6 +227,11 @@ fn page(random: &mut Random, to: &mut Vec<u8>) {
             to.push(random.between(254, 255) as u8);
         }
         3 => to.extend([ESC, b'N', argument(random, b'N'), ESC, random.pick(b"OJ0")]),
+        4 => {
+            let (unit, amount, lines) = random.pick(&NEAR_PAGES);
+            to.extend([ESC, unit, amount, ESC, b'C', lines]);
+        }
+        5 => to.extend([SI, ESC, b' ', random.between(64, 66) as u8, ESC, b'Q', 19]),
         _ => to.extend([ESC, b'C', random.pick(&[0, 1, 5, 6, 66, 127, 128])]),
     }
     for _ in 0..random.below(6) {

@@ -181,6 +181,8 @@ impl Pair {
             if report.answer != plain_reader::STATE_REFUSED {
                 let first = self.proved.waiting.command;
                 mirror = left(&before, first, &input[..report.read], state);
+            } else if *state != before {
+                mirror = None;
             }
         }
         Came {
@@ -206,8 +208,8 @@ impl Pair {
 
     /// Whether a reading call came back the same: numbers, the whole output
     /// and the state. A refused state is the same if every field is as it
-    /// came; another one if the fields are that the rules look at, and after a
-    /// start no list is left where one was gathered.
+    /// came, and so is any after a start; of a made-up state those fields
+    /// count that the rules look at.
     fn same(&self, plain: &Came, proved: &Came) -> bool {
         let numbers = |came: &Came| (came.answer, came.read, came.written);
         if numbers(plain) != numbers(proved) || plain.out != proved.out {
@@ -222,7 +224,7 @@ impl Pair {
         let as_plain = mirror::plain(&self.proved).map(|state| states::normal(&state));
         mirror::normal(expected) == mirror::normal(&self.proved)
             && as_plain == self.plain.as_ref().map(states::normal)
-            && (!self.started || mirror::is_cleared(&self.proved))
+            && (!self.started || *expected == self.proved)
     }
 }
 

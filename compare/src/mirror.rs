@@ -263,14 +263,6 @@ fn gathers(mirror: &Mirror, command: u8) -> bool {
     mirror.waiting.kind == ierbulosc::STOP_LIST && mirror.waiting.command == command
 }
 
-/// Whether the gathering places are as at power-on but for the list that is
-/// gathered.
-pub fn is_cleared(mirror: &Mirror) -> bool {
-    let stops = &mirror.stops;
-    (gathers(mirror, b'D') || stops.gathered_columns == Columns::NONE)
-        && (gathers(mirror, b'B') || stops.gathered_lines == Lines::NONE)
-}
-
 /// The mirror with the parts that no rule looks at made 0: slots past a count,
 /// and a gathering place while no such list is gathered.
 pub fn normal(mirror: &Mirror) -> Mirror {

@@ -110,6 +110,7 @@ impl Reckoning {
     fn step(&mut self, byte: u8) -> Learnt {
         let mut out = [0; 28];
         let report = plain_reader::read(&mut self.steps, &[byte], 1, &mut out);
+        assert_eq!(report.read, 1, "the plain reader refuses its own state");
         let mut learnt = Learnt::default();
         for record in out[..report.written].chunks_exact(14) {
             match &record[..2] {

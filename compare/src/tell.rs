@@ -75,7 +75,8 @@ fn outcome(came: &Came, equal: usize) -> String {
 /// The fields in which the states differ.
 fn states(plain: &Came, proved: &Came) -> String {
     let (Some(plain), Some(proved)) = (&plain.state, &proved.state) else {
-        return "the plain reader's state has no mirror\n".to_string();
+        return "the plain reader's state has no mirror, or was altered though refused\n"
+            .to_string();
     };
     let mut text = String::new();
     for (name, plain, proved) in fields::differing(plain, proved) {

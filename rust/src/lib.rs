@@ -40,12 +40,16 @@ pub const STATE_REFUSED: u8 = 4;
 /// - LN is a line fed or a page turned: the new row, and in byte the pages
 ///   turned, or 255 for a new top.
 /// - CL: the TX and IM since the last LN, CL or start are void.
-/// - NO is a byte or command passed over: its byte, and in style the reason:
-///   1 unlisted; 2 argument or setting not allowed; 3 past margin, page or
+/// - NO is what was passed over: in byte the letter, image byte or list byte,
+///   else the control byte or the escape's second byte, as received; in style
+///   the reason: 1 unlisted; 2 argument or setting not allowed; 3 past margin, page or
 ///   stop limits; 4 letter or image column does not fit; 5 no stop to the
 ///   right.
 ///
-/// Fields that are not named are 0.
+/// Fields that are not named are 0. Style bits, from the lowest: bold, double
+/// strike, italic, underline, superscript, subscript, double width, double
+/// height, two bits of the ESC q number, proportional, reduced, italic code
+/// table, download set.
 pub const RECORD_SIZE: usize = 14;
 /// The room that must be left in the output for a byte to be read: it writes
 /// at most two records.

@@ -71,6 +71,11 @@ module _ (s : State) (input : List ℕ) (allowance : ℕ) (out : List ℕ) (numb
   unfolding stateReadingOf stateOutputOf
   read-refused e = (promise .answer ∙ rw e, promise .state ∙ rw e, promise .counts ∙ rw e, promise .output ∙ rw e)
 
+  -- so numbers that no state packs to are refused
+  pub read-no-state : ((p : Printer) → pack p ≡ s → ⊥)
+      → (number ≡ 4) × (left ≡ s) × (counted ≡ countsOf 0 0) × (after ≡ out)
+  read-no-state none = known-elim _ (valid s) (λ e. absurd (none (printerOf s) (pack-again s e))) (λ e. read-refused e)
+
   -- whenever it answers 4, on numbers of no state or on a state outside its bounds, the state and the output stay as they were
   pub read-4 : number ≡ 4 → (left ≡ s) × (counted ≡ countsOf 0 0) × (after ≡ out)
   read-4 four =
