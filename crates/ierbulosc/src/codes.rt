@@ -4,33 +4,10 @@ use printer::commands::One;
 use printer::commands::Parameter;
 use printer::commands::Tabs;
 use printer::commands::Two;
+use settings::codes::parameter_code;
 ghost use mathlib.Core.Path.{_≡_};
-ghost use Rattle.printer.specs.Codes.{parameterCode, oneCode, twoCode, listCode, imageCode};
+ghost use Rattle.printer.specs.Codes.{oneCode, twoCode, listCode, imageCode};
 ghost use Rattle.ierbulosc.specs.Waits.{oneOf, twoOf, densityOf, tabsOf};
-
-fn parameter_code(c: Parameter) -> u8
-    ensures { λ r. ⌜ r ≡ parameterCode c ⌝ }
-{
-    match c {
-        Parameter::Line180ths => b'3',
-        Parameter::Line60ths => b'A',
-        Parameter::Line360ths => b'+',
-        Parameter::Skip => b'N',
-        Parameter::Spacing => b' ',
-        Parameter::Proportional => b'p',
-        Parameter::Script => b'S',
-        Parameter::Quality => b'x',
-        Parameter::DoubleWidth => b'W',
-        Parameter::DoubleHeight => b'w',
-        Parameter::Underline => b'-',
-        Parameter::Download => b'%',
-        Parameter::CodeTable => b't',
-        Parameter::Country => b'R',
-        Parameter::Outline => b'q',
-        Parameter::Font => b'k',
-        Parameter::Master => b'!',
-    }
-}
 
 pub(crate) fn one_code(c: One) -> u8
     ensures { λ r. ⌜ r ≡ oneCode c ⌝ }

@@ -41,7 +41,7 @@ pub(crate) fn mode_code(m: Mode) -> u8
     }
 }
 
-pub(crate) fn parameter_code(c: Parameter) -> u8
+pub fn parameter_code(c: Parameter) -> u8
     ensures { λ r. ⌜ r ≡ parameterCode c ⌝ }
 {
     match c {

@@ -16,7 +16,7 @@ ghost use Rattle.writing.specs.Outcome.{stepped, Outcome};
 ghost use Rattle.writing.specs.declared.Output.{Output};
 ghost use Rattle.settings.specs.Page.{pageLength};
 
-mod codes;
+pub mod codes;
 mod letters;
 mod master;
 mod modes;
