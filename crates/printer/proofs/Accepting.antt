@@ -5,9 +5,9 @@ use mathlib.Core.List.{List}
 use native.Mathlib.Omega.{arith}
 use Rattle.printer.specs.Tools.{both, Order, holds}
 use Rattle.printer.specs.PowerOn.{powerOn}
-use Rattle.printer.specs.Bounds.{settingsBounds, placeBounds, columnBounds, lineBounds, waitingBounds, ascending, accepted, Accepted, Typed}
-use Rattle.printer.specs.declared.settings.Setup.{Setup}
-use Rattle.printer.specs.declared.state.Printer.{Printer}
+use Rattle.printer.specs.Bounds.{settingsBounds, placeBounds, columnBounds, lineBounds, waitingBounds, ascending, accepted}
+use Rattle.printer.specs.Accepted.{Accepted, Typed}
+use Rattle.printer.specs.Types.{Setup, Printer}
 use Rattle.printer.proofs.Choices.{both-left, both-right, both-true, holds-fact, fact-holds}
 
 pub fact-accepted : (p : Printer) → Accepted p → accepted p ≡ true
@@ -47,6 +47,6 @@ pub power-on-typed : (t : Setup) → Typed (powerOn t)
 power-on-typed t =
     record {
       font = omega arith;
-      stops = record { columns = refl; lines = refl; gatheredcolumns = refl; gatheredlines = refl };
+      stops = record { columns = refl; lines = refl; gathered = refl };
       waiting = tt;
     }

@@ -12,13 +12,12 @@ use Rattle.printer.specs.Tools.{pick}
 use Rattle.printer.specs.Records.{recordSize, roomForByte, encodedAll}
 use Rattle.printer.specs.Bounds.{accepted}
 use Rattle.printer.specs.Steps.{stepOf, stepRecords}
-use Rattle.printer.specs.Calls.{startOf, Run, stopped, runOf, callOf, StartPromise, StartCall, ReadCall, ReadingPromise, Cell, row, ThatState, ByTable}
-use Rattle.printer.specs.declared.answers.Answer.{Answer}
-use Rattle.printer.specs.declared.answers.Reading.{Reading}
-use Rattle.printer.specs.declared.state.Printer.{Printer}
+use Rattle.printer.specs.Calls.{isFull, startOf, Run, stopped, runOf, callOf, readingOf, outputOf, StartCall, ReadCall, Cell, row, ThatState, ByTable}
+use Rattle.printer.specs.Promises.{StartPromise, ReadPromise, callBy}
+use Rattle.printer.specs.Types.{Answer, Reading, Started, StartSettings, Printer}
 use Rattle.printer.proofs.Choices.{pick-elim}
 use Rattle.printer.proofs.Few.{two-records}
-use Rattle.printer.proofs.Cuts.{kept-promise}
+use Rattle.printer.proofs.Cuts.{Gave, kept-promise}
 
 -- Reading calls
 
@@ -26,12 +25,12 @@ use Rattle.printer.proofs.Cuts.{kept-promise}
 When : Answer → (bytes allowance room read written : ℕ) → Type 0
 When Answer.InputUsed bytes allowance room read written = read ≡ bytes
 When Answer.AllowanceUsed bytes allowance room read written = (read ≡ allowance) × (read < bytes)
-When Answer.OutputFull bytes allowance room read written = (read < allowance) × (read < bytes) × (room < written + 28)
+When Answer.OutputFull bytes allowance room read written = (read < allowance) × (read < bytes) × (room < written + roomForByte)
 When Answer.SettingsRefused bytes allowance room read written = ⊥
 When Answer.StateRefused bytes allowance room read written = ⊥
 
 -- a byte more before it
-byte-more : (a : Answer) (bytes allowance room read written : ℕ) (w m : ℕ) → w ≤ 28 → 28 ≤ room → m ≡ w + written
+byte-more : (a : Answer) (bytes allowance room read written : ℕ) (w m : ℕ) → w ≤ roomForByte → roomForByte ≤ room → m ≡ w + written
     → When a bytes allowance (room - w) read written → When a (suc bytes) (suc allowance) room (suc read) m
 unfolding When
 byte-more Answer.InputUsed bytes allowance room read written w m h k e v = omega arith
@@ -48,9 +47,9 @@ unfolding runOf RunWhen When
 run-when p [] allowance room = refl
 run-when p (b ∷ l) zero room = (refl, omega arith)
 run-when p (b ∷ l) (suc allowance) room =
-    pick-elim (RunWhen (suc (length l)) (suc allowance) room) (ltb room roomForByte)
-    (λ e. let h : room < 28 = ltb-true _ _ e in (omega arith, omega arith, omega arith))
-    (λ e. let h : 28 ≤ room = ltb-false _ _ e in
+    pick-elim (RunWhen (suc (length l)) (suc allowance) room) (isFull room)
+    (λ e. let h : room < roomForByte = ltb-true _ _ e in (omega arith, omega arith, omega arith))
+    (λ e. let h : roomForByte ≤ room = ltb-false _ _ e in
     let left : ℕ = room - recordSize * length (stepRecords p b) in
     let v = runOf (stepOf p b) l allowance left in
     byte-more (v .answer) (length l) allowance room (v .read) (recordSize * length (v .records))
@@ -61,7 +60,7 @@ abbrev cellOf : ReadCall → Answer → Cell
 cellOf c a = row a .reading c
 
 -- a run's answer is in the table, and so is a refused state's
-run-row : (c : ReadCall) (a : Answer) → ReadingPromise c → accepted (c .state) ≡ true
+run-row : (c : ReadCall) (a : Answer) → Gave c → accepted (c .state) ≡ true
     → When a (length (c .input)) (c .allowance) (length (c .out)) (c .back .read) (c .back .written)
     → cellOf c a .when × cellOf c a .back
 unfolding When
@@ -99,7 +98,7 @@ call-refused : (p : Printer) (input : List ℕ) (allowance room : ℕ) → accep
 unfolding callOf
 call-refused p input allowance room e = rw e refl
 
-pub refused-row : (c : ReadCall) → ReadingPromise c → accepted (c .state) ≡ false
+pub refused-row : (c : ReadCall) → Gave c → accepted (c .state) ≡ false
     → (c .back .answer ≡ Answer.StateRefused) × ThatState c
 unfolding encodedAll
 refused-row c h e =
@@ -114,7 +113,7 @@ refused-row c h e =
       },
     )
 
-read-row : (c : ReadCall) → ReadingPromise c → cellOf c (c .back .answer) .when × cellOf c (c .back .answer) .back
+read-row : (c : ReadCall) → Gave c → cellOf c (c .back .answer) .when × cellOf c (c .back .answer) .back
 unfolding RunWhen
 read-row c h = go (accepted (c .state)) refl
   where
@@ -124,7 +123,7 @@ read-row c h = go (accepted (c .state)) refl
         (rw (kept-promise c h .back) (call-when (c .state) (c .input) (c .allowance) (length (c .out)) e))
     go false e = let r = refused-row c h e in subst (λ (a : Answer). cellOf c a .when × cellOf c a .back) (sym (r .0)) (e, r .1)
 
-pub read-by-table : (c : ReadCall) → ReadingPromise c → ByTable (cellOf c) (c .back .answer)
+pub read-by-table : (c : ReadCall) → Gave c → ByTable (cellOf c) (c .back .answer)
 read-by-table c h =
     let r = read-row c h in
     record { when = r .0; only = λ b w. read-only c _ (r .0) ∙ sym (read-only c b w); back = r .1 }
@@ -136,39 +135,57 @@ startCell c a = row a .starting c
 
 startAnswer : StartCall → Answer
 startAnswer c =
-    pick (eqb (c .resolution) 300) Answer.InputUsed (pick (eqb (c .resolution) 203) Answer.InputUsed Answer.SettingsRefused)
+    pick (eqb (c .settings .resolution) 300) Answer.InputUsed (pick (eqb (c .settings .resolution) 203) Answer.InputUsed Answer.SettingsRefused)
 
 start-only : (c : StartCall) (a : Answer) → startCell c a .when → a ≡ startAnswer c
 unfolding startAnswer
 start-only c Answer.InputUsed w =
-    ⊎-elim (λ (e : c .resolution ≡ 300). rw (eq-eqb _ _ e) refl)
-    (λ (e : c .resolution ≡ 203). let n : (c .resolution ≡ 300 → ⊥) = omega arith in rw (ne-eqb _ _ n, eq-eqb _ _ e) refl) w
+    ⊎-elim (λ (e : c .settings .resolution ≡ 300). rw (eq-eqb _ _ e) refl)
+    (λ (e : c .settings .resolution ≡ 203). let n : (c .settings .resolution ≡ 300 → ⊥) = omega arith in rw (ne-eqb _ _ n, eq-eqb _ _ e) refl) w
 start-only c Answer.AllowanceUsed w = absurd w
 start-only c Answer.OutputFull w = absurd w
 start-only c Answer.SettingsRefused w = rw (ne-eqb _ _ (w .0), ne-eqb _ _ (w .1)) refl
 start-only c Answer.StateRefused w = absurd w
 
-start-row : (c : StartCall) → StartPromise (c .resolution) (c .autofeed) (c .back)
+start-row : (c : StartCall) → c .back ≡ startOf (c .settings)
     → startCell c (c .back .answer) .when × startCell c (c .back .answer) .back
 unfolding startOf
-start-row c h = go (eqb (c .resolution) 300) refl
+start-row c h = go (eqb (c .settings .resolution) 300) refl
   where
-    go-203 : (t : Bool) → eqb (c .resolution) 300 ≡ false → eqb (c .resolution) 203 ≡ t
-        → startCell c (c .back .answer) .when × startCell c (c .back .answer) .back
+    row-of : Type 0
+    row-of = startCell c (c .back .answer) .when × startCell c (c .back .answer) .back
+
+    go-203 : (t : Bool) → eqb (c .settings .resolution) 300 ≡ false → eqb (c .settings .resolution) 203 ≡ t → row-of
     go-203 true n e =
-        let g = rw (n, e) at (h .gives) in
-        let r : c .resolution ≡ 203 = eqb-true _ _ e in
+        let g = rw (n, e) at h in
+        let r : c .settings .resolution ≡ 203 = eqb-true _ _ e in
         rw g (inr r, record { at300 = λ z. absurd (omega arith); at203 = λ _. refl; waiting = refl })
-    go-203 false n e = let g = rw (n, e) at (h .gives) in rw g ((eqb-false _ _ n, eqb-false _ _ e), refl)
+    go-203 false n e = let g = rw (n, e) at h in rw g ((eqb-false _ _ n, eqb-false _ _ e), refl)
 
-    go : (t : Bool) → eqb (c .resolution) 300 ≡ t → startCell c (c .back .answer) .when × startCell c (c .back .answer) .back
+    go : (t : Bool) → eqb (c .settings .resolution) 300 ≡ t → row-of
     go true e =
-        let g = rw e at (h .gives) in
-        let r : c .resolution ≡ 300 = eqb-true _ _ e in
+        let r : c .settings .resolution ≡ 300 = eqb-true _ _ e in
+        let n : eqb (c .settings .resolution) 203 ≡ false = ne-eqb (c .settings .resolution) 203 (omega arith) in
+        let g = rw (e, n) at h in
         rw g (inl r, record { at300 = λ _. refl; at203 = λ z. absurd (omega arith); waiting = refl })
-    go false n = go-203 (eqb (c .resolution) 203) n refl
+    go false n = go-203 (eqb (c .settings .resolution) 203) n refl
 
-pub start-by-table : (c : StartCall) → StartPromise (c .resolution) (c .autofeed) (c .back) → ByTable (startCell c) (c .back .answer)
+pub start-by-table : (c : StartCall) → c .back ≡ startOf (c .settings) → ByTable (startCell c) (c .back .answer)
 start-by-table c h =
     let r = start-row c h in
     record { when = r .0; only = λ b w. start-only c _ (r .0) ∙ sym (start-only c b w); back = r .1 }
+
+-- What the rules give keeps the promises
+
+pub start-promise : (settings : StartSettings) (back : Started) → back ≡ startOf settings → StartPromise settings back
+start-promise settings back h = record { gives = h; byTable = start-by-table (record { settings = settings; back = back }) h }
+
+pub read-promise : (p : Printer) (input : List ℕ) (allowance : ℕ) (out : List ℕ) (back : Reading) (after : List ℕ)
+    → back ≡ readingOf p input allowance (length out) → after ≡ outputOf p input allowance out
+    → ReadPromise p input allowance out back after
+read-promise p input allowance out back after h o =
+    record {
+      gives = h;
+      output = o;
+      byTable = read-by-table (callBy p input allowance out back after) (record { gives = h; output = o });
+    }

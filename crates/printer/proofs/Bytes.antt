@@ -6,9 +6,9 @@ use native.Mathlib.Omega.{arith}
 use lib.ListN.{length, take, length-append}
 use lib.Seq.{take-at, drop-at}
 use Rattle.printer.specs.Tools.{Each}
-use Rattle.printer.specs.Records.{recordSize, low, high, markLow, markHigh, encoded, encodedAll, marksOf, decoded, decodedFirst, decodedAll, FitsBytes}
-use Rattle.printer.specs.declared.records.Mark.{Mark}
-use Rattle.printer.specs.declared.records.Record.{Record}
+use Rattle.printer.specs.Records.{recordSize, low, high, markLow, markHigh, encoded, encodedAll}
+use Rattle.printer.specs.Decoding.{marksOf, decoded, decodedFirst, decodedAll, FitsBytes}
+use Rattle.printer.specs.Types.{Mark, Record}
 
 -- a two-byte number from its bytes
 word : (n : ℕ) → n ≤ 65535 → low n + 256 * high n ≡ n

@@ -6,56 +6,48 @@ use mathlib.Core.List.{List, [], _∷_, _++_}
 use native.Mathlib.Omega.{arith}
 use lib.Dec.{ltb, eqb}
 use lib.ListN.{length}
-use borrow.Author.Tests.{eqb-true}
-use Rattle.printer.specs.Tools.{pick, Each, Bytes}
-use Rattle.printer.specs.Records.{recordSize, roomForByte, encodedAll, FitsBytes}
+use Rattle.printer.specs.Tools.{pick, either, Each, Bytes}
+use Rattle.printer.specs.Records.{recordSize, roomForByte, encodedAll}
+use Rattle.printer.specs.Decoding.{FitsBytes}
 use Rattle.printer.specs.Steps.{recordsOver, stepOf, stepRecords}
 use Rattle.printer.specs.PowerOn.{powerOn}
 use Rattle.printer.specs.Calls
-use Rattle.printer.specs.Calls.{numberOf, setup, startOf, Run, runOf, callOf, StartCall, ReadCall, ReadingPromise, bytesOf}
+use Rattle.printer.specs.Calls.{isFull, numberOf, setup, setupOf, plainStart, startOf, Run, runOf, callOf, StartCall, ReadCall, bytesOf}
+use Rattle.printer.specs.Promises.{ReadingPromise}
 use Rattle.printer.specs.Reckoning.{origin, begun, Axis, printed}
-use Rattle.printer.specs.Demand3.{Rooms, Call, started, read, Chain, rulesAfter, occurrences, OwnCall, Own, NotFour, writtenBy, joined, Demand3}
-use Rattle.printer.specs.declared.answers.Answer.{Answer}
-use Rattle.printer.specs.declared.answers.Started.{Started}
-use Rattle.printer.specs.declared.records.Record.{Record}
-use Rattle.printer.specs.declared.settings.Setup.{Setup}
-use Rattle.printer.specs.declared.state.Printer.{Printer}
-use Rattle.printer.specs.declared.units.Resolution.{Resolution}
+use Rattle.printer.specs.Shown.{written}
+use Rattle.printer.specs.Demand3.{Call, started, read, Chain, rulesAfter, occurrences, OwnCall, Own, NotFour, writtenBy, joined, Demand3}
+use Rattle.printer.specs.Types.{Answer, Started, Record, Setup, StartSettings, Printer, Resolution}
 use Rattle.printer.proofs.Choices.{pick-elim, each-append, bytes-take}
 use Rattle.printer.proofs.Accepting.{fact-accepted}
 use Rattle.printer.proofs.KeepingSteps.{Ours, steps-ours, power-on-ours}
 use Rattle.printer.proofs.Writing.{steps-fit}
 use Rattle.printer.proofs.Bytes.{decodedAll-encoded, encodedAll-append}
-use Rattle.printer.proofs.Cuts.{kept-promise, call-writes}
+use Rattle.printer.proofs.Cuts.{gave, kept-promise, call-writes}
 use Rattle.printer.proofs.Following.{from}
-use Rattle.printer.proofs.Claims.{Claim, nothing, Keeps, bytes-then}
+use Rattle.printer.proofs.Claims.{ClaimOver, nothing, Keeps, bytes-then}
 
 -- The start
 
 -- a start leaves a state of ours, waiting for nothing, at which the reckoning begins
-record Begins (resolution : ℕ) (s : Started) : Type 0 where
+record Begins (settings : StartSettings) (s : Started) : Type 0 where
   keeps : Keeps (s .printer) 0 origin origin
-  begins : begun resolution ≡ from (s .printer) 0 origin origin
+  begins : begun settings ≡ from (s .printer) 0 origin origin
   number : numberOf (s .answer) ≤ 3
 
-start-begins : (resolution : ℕ) (autofeed : Bool) → Begins resolution (startOf resolution autofeed)
+start-begins : (settings : StartSettings) → Begins settings (startOf settings)
 unfolding startOf
-start-begins resolution autofeed =
-    pick-elim (Begins resolution) (eqb resolution 300)
-    (λ e. record {
-      keeps = keeps (setup Resolution.Dots300 autofeed);
-      begins = rw (eqb-true resolution 300 e);
-      number = omega arith;
-    })
-    (λ _. go (eqb resolution 203) refl)
+start-begins settings = go (eqb (settings .resolution) 203) (eqb (settings .resolution) 300) refl
   where
     keeps : (t : Setup) → Keeps (powerOn t) 0 origin origin
-    keeps t = record { ours = power-on-ours t; across = refl; down = refl; step = tt }
+    keeps t = record { ours = power-on-ours t; across = refl; down = refl; step = λ d m z. cc }
 
-    go : (t : Bool) → eqb resolution 203 ≡ t
-        → Begins resolution (pick t (Calls.started Answer.InputUsed (setup Resolution.Dots203 autofeed)) (Calls.started Answer.SettingsRefused (setup Resolution.Dots300 false)))
-    go true e = record { keeps = keeps (setup Resolution.Dots203 autofeed); begins = rw e; number = omega arith }
-    go false e = record { keeps = keeps (setup Resolution.Dots300 false); begins = rw e; number = omega arith }
+    go : (t u : Bool) → eqb (settings .resolution) 203 ≡ t
+        → Begins settings (pick (either u t) (Calls.startedWith Answer.InputUsed (setup (pick t Resolution.Dots203 Resolution.Dots300) (settings .autofeed))) (Calls.startedWith Answer.SettingsRefused (setupOf plainStart)))
+    go true true e = record { keeps = keeps _; begins = rw e; number = omega arith }
+    go true false e = record { keeps = keeps _; begins = rw e; number = omega arith }
+    go false true e = record { keeps = keeps _; begins = rw e; number = omega arith }
+    go false false e = record { keeps = keeps _; begins = rw e; number = omega arith }
 
 -- Reading calls
 
@@ -64,7 +56,7 @@ unfolding runOf
 run-number p [] allowance room = omega arith
 run-number p (b ∷ l) zero room = omega arith
 run-number p (b ∷ l) (suc allowance) room =
-    pick-elim (λ (v : Run). numberOf (v .answer) ≤ 3) (ltb room roomForByte) (λ _. omega arith)
+    pick-elim (λ (v : Run). numberOf (v .answer) ≤ 3) (isFull room) (λ _. omega arith)
     (λ _. run-number (stepOf p b) l allowance (room - recordSize * length (stepRecords p b)))
 
 -- a state of ours is not refused
@@ -73,7 +65,7 @@ unfolding callOf
 call-number p input allowance room o = rw (fact-accepted p (o .accepted)) (run-number p input allowance room)
 
 own-call : (p : Printer) (c : ReadCall) → c .state ≡ p → ReadingPromise c → OwnCall p (read c)
-own-call p c e h = let k = kept-promise c h in (e, rw e at (k .back), rw e at (k .new .state), rw e at (h .output))
+own-call p c e h = let k = kept-promise c (gave c h) in (e, rw e at (k .back), rw e at (k .new .state), rw e at (h .output))
 
 -- what a call wrote is the bytes of the rules' records
 own-written : (p : Printer) (c : ReadCall) → OwnCall p (read c) → writtenBy (read c) ≡ encodedAll (recordsOver p (bytesOf c))
@@ -90,7 +82,7 @@ recordsIn p (read c ∷ l) = recordsOver p (bytesOf c) ++ recordsIn (rulesAfter 
 own-list : (p : Printer) (l : List Call) → Chain p l → Own p l
 own-list p [] h = tt
 own-list p (started c ∷ l) h =
-    let e : c .back ≡ startOf (c .resolution) (c .autofeed) = h .0 .gives in
+    let e : c .back ≡ startOf (c .settings) = h .0 .gives in
     (e, own-list (rulesAfter p (started c)) l (rw e at (h .1)))
 own-list p (read c ∷ l) h =
     let o = own-call p c (h .0 .0) (h .0 .2) in
@@ -108,15 +100,15 @@ bytes-in p [] h = tt
 bytes-in p (started c ∷ l) h = bytes-in (c .back .printer) l (h .1)
 bytes-in p (read c ∷ l) h = (h .0 .1, bytes-in (c .left) l (h .1))
 
-start-ours : (resolution : ℕ) (autofeed : Bool) → Ours (startOf resolution autofeed .printer)
-start-ours resolution autofeed = start-begins resolution autofeed .keeps .ours
+start-ours : (settings : StartSettings) → Ours (startOf settings .printer)
+start-ours settings = start-begins settings .keeps .ours
 
 not-four : (p : Printer) (l : List Call) → BytesIn l → Own p l → Ours p → Each NotFour l
 unfolding BytesIn
 not-four p [] m h o = tt
 not-four p (started c ∷ l) m h o = (
-  rw (h .0) (start-begins (c .resolution) (c .autofeed) .number),
-  not-four (rulesAfter p (started c)) l m (h .1) (start-ours (c .resolution) (c .autofeed)),
+  rw (h .0) (start-begins (c .settings) .number),
+  not-four (rulesAfter p (started c)) l m (h .1) (start-ours (c .settings)),
 )
 not-four p (read c ∷ l) m h o = (
   rw (h .0 .1) (call-number p (c .input) (c .allowance) (length (c .out)) o),
@@ -133,30 +125,30 @@ joined-records p (read c ∷ l) h =
 records-fit : (p : Printer) (l : List Call) → BytesIn l → Ours p → Each FitsBytes (recordsIn p l)
 unfolding recordsIn BytesIn
 records-fit p [] m o = tt
-records-fit p (started c ∷ l) m o = records-fit (rulesAfter p (started c)) l m (start-ours (c .resolution) (c .autofeed))
+records-fit p (started c ∷ l) m o = records-fit (rulesAfter p (started c)) l m (start-ours (c .settings))
 records-fit p (read c ∷ l) m o =
     let b = bytes-take (c .back .read) (c .input) (m .0) in
     each-append FitsBytes (recordsOver p (bytesOf c)) (recordsIn (rulesAfter p (read c)) l) (steps-fit p (bytesOf c) b o)
     (records-fit (rulesAfter p (read c)) l (m .1) (steps-ours p (bytesOf c) b o))
 
 calls-claim : (p : Printer) (n : ℕ) (k j : Axis) (l : List Call) → BytesIn l → Keeps p n k j
-    → Claim (recordsIn p l) (printed (from p n k j) (occurrences p l)) (Rooms (from p n k j) (occurrences p l))
-unfolding recordsIn BytesIn occurrences printed
+    → ClaimOver (from p n k j) (recordsIn p l) (occurrences p l)
+unfolding recordsIn BytesIn occurrences printed written
 calls-claim p n k j [] m h = nothing
 calls-claim p n k j (started c ∷ l) m h =
-    let b = start-begins (c .resolution) (c .autofeed) in
+    let b = start-begins (c .settings) in
     let w = calls-claim (rulesAfter p (started c)) 0 origin origin l m (b .keeps) in
-    rw (b .begins) (record { same = w .same; between = w .between; passedOver = (tt, w .passedOver) })
+    rw (b .begins) (record { same = w .same; between = w .between; reckoned = (tt, w .reckoned) })
 calls-claim p n k j (read c ∷ l) m h =
     bytes-then p n k j (bytesOf c) (recordsIn (rulesAfter p (read c)) l) (occurrences (rulesAfter p (read c)) l)
     (bytes-take (c .back .read) (c .input) (m .0)) h
     (λ n′ k′ j′ g. calls-claim (rulesAfter p (read c)) n′ k′ j′ l (m .1) g)
 
 pub demand-3 : (before : Printer) (c : StartCall) (l : List Call) → Chain before (started c ∷ l) → Demand3 before (started c ∷ l)
-unfolding recordsIn BytesIn occurrences printed
+unfolding recordsIn BytesIn occurrences printed written
 demand-3 p c l h =
     let q : Printer = rulesAfter p (started c) in
-    let b = start-begins (c .resolution) (c .autofeed) in
+    let b = start-begins (c .settings) in
     let m = bytes-in p (started c ∷ l) h in
     let o = own-list p (started c ∷ l) h in
     let w = calls-claim q 0 origin origin l m (b .keeps) in
@@ -165,5 +157,5 @@ demand-3 p c l h =
       noFour = (rw (o .0) (b .number), not-four q l m (o .1) (b .keeps .ours));
       same = rw (joined-records p (started c ∷ l) o, decodedAll-encoded (recordsIn q l) (records-fit q l m (b .keeps .ours)), b .begins) (w .same);
       between = rw (b .begins) (w .between);
-      passedOver = (tt, rw (b .begins) (w .passedOver));
+      reckoned = (tt, rw (b .begins) (w .reckoned));
     }

@@ -73,10 +73,6 @@ pub bytes-append : (a b : List ℕ) → Bytes a → Bytes b → Bytes (a ++ b)
 bytes-append [] b h k = k
 bytes-append (x ∷ a) b h k = (h .0, bytes-append a b (h .1) k)
 
-pub bytes-first : (a b : List ℕ) → Bytes (a ++ b) → Bytes a
-bytes-first [] b h = tt
-bytes-first (x ∷ a) b h = (h .0, bytes-first a b (h .1))
-
 pub bytes-rest : (a b : List ℕ) → Bytes (a ++ b) → Bytes b
 bytes-rest [] b h = h
 bytes-rest (x ∷ a) b h = bytes-rest a b (h .1)

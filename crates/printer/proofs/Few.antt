@@ -3,33 +3,25 @@ use Prim.Native.Nat.{ℕ, suc, _≤_}
 use mathlib.Core.List.{List, [], _∷_}
 use native.Mathlib.Omega.{arith}
 use lib.ListN.{length, length-append}
-use Rattle.printer.specs.Performing.{Event, done, passed, inside, automatic, recordsOf, recordsAll, perform}
+use Rattle.printer.specs.Performing.{Event, done, passed, inside, automatic, Writing, silent, letter, imageByte, feed, clear, recordsBy, effectAt, controlAt, recordsOf, recordsAll, perform}
 use Rattle.printer.specs.Deciding.{feedAfterReturn, decide}
 use Rattle.printer.specs.Steps.{frameAt, eventsIn, stepEvents, stepRecords}
-use Rattle.printer.specs.Reckoning.{Prints}
-use Rattle.printer.specs.declared.commands.Command.{Command}
-use Rattle.printer.specs.declared.commands.Control.{Control}
-use Rattle.printer.specs.declared.commands.Frame.{Frame}
-use Rattle.printer.specs.declared.records.Record.{Record}
-use Rattle.printer.specs.declared.state.Printer.{Printer}
+use Rattle.printer.specs.Types.{Command, Control, Frame, Place, Printer, Settings}
 use Rattle.printer.proofs.Choices.{pick-elim}
 use Rattle.printer.proofs.Legal.{vt, decided}
-use Rattle.printer.proofs.Writing.{control-writes, writes}
+
+one-written : (s : Settings) (x y : Place) (w : Writing) → length (recordsBy s x y w) ≤ 1
+one-written s x y silent = omega arith
+one-written s x y (letter b n) = omega arith
+one-written s x y (imageByte b n) = omega arith
+one-written s x y (feed pages) = omega arith
+one-written s x y clear = omega arith
 
 one-record : (p : Printer) (e : Event) → length (recordsOf p e) ≤ 1
-one-record p (done c told) =
-    writes p told (λ (c : Command) (x : Prints) (l : List Record). length l ≤ 1)
-    (record {
-      silent = λ c. omega arith;
-      letters = λ b. omega arith;
-      images = λ d b. omega arith;
-      feeds = λ c pages m. omega arith;
-      clears = λ c. omega arith;
-    })
-    c
+one-record p (done c n) = one-written (p .settings) (p .place) _ (effectAt p c n .writing)
 one-record p (passed c reason) = omega arith
-one-record p (inside c told) = control-writes p (λ (l : List Record). length l ≤ 1) c told (omega arith) (λ pages m. omega arith)
-one-record p (automatic told) = omega arith
+one-record p (inside c n) = one-written (p .settings) (p .place) _ (controlAt p c n .writing)
+one-record p (automatic n) = omega arith
 
 -- at most n records
 abbrev Few : ℕ → Printer → List Event → Type 0
@@ -64,12 +56,12 @@ few-decide : (p : Printer) (c : Command) → Few 2 p (decide p c)
 few-decide p =
     decided p (λ (c : Command) (l : List Event). Few 2 p l)
     (record {
-      does = λ c told r n. few-one p _;
+      does = λ c n r k. few-one p _;
       passes = λ c reason k u. few-one p _;
       wraps = λ b h. few-two p _ _;
       returns = λ b. few-more 1 p _ _ (few-feed _);
       performsReturn = λ b. few-return p b _ (few-feed _);
-      performs = λ b x told h. few-two p _ _;
+      performs = λ b x n h. few-two p _ _;
     })
 
 few-frame : (p : Printer) (f : Frame) → Few 2 p (eventsIn p f)

@@ -1,61 +1,32 @@
 -- The reckoning follows the rules: after each event its settings, margins and stops are the state's, and its exact places the state's places.
-use Prim.Native.Nat.{ℕ, zero, suc, _+_, _*_, _-_, _/_, _≤_, _<_}
-use mathlib.Core.Path.{_≡_, refl, ap}
+use Prim.Native.Nat.{ℕ, zero, suc, _+_, _*_, _-_, _/_, _%_, _≤_, _<_}
+use mathlib.Core.Path.{_≡_, refl, sym, ap}
 use mathlib.Core.Bool.{Bool, true, false}
 use mathlib.Core.List.{[], _∷_}
 use mathlib.Core.Logic.{_⊎_, inl, inr, ⊎-elim}
 use native.Mathlib.Omega.{arith}
 use native.Mathlib.Nat.{div-add-mod'}
-use lib.Dec.{leb, ltb}
-use borrow.Author.Tests.{leb-true, ltb-true, ltb-false, le-leb, lt-leb}
-use Rattle.printer.specs.Tools.{pick, within, _upTo_, Holds}
-use Rattle.printer.specs.Units.{perInchAcross, perInchDown}
+use lib.Dec.{leb, ltb, eqb}
+use borrow.Author.Tests.{leb-true, leb-false, ltb-true, ltb-false, le-leb, lt-leb, eq-eqb, ne-eqb}
+use Rattle.printer.specs.Tools.{pick, bit, within, _upTo_, Holds}
 use Rattle.printer.specs.Widths.{imageStep}
-use Rattle.printer.specs.Settings.{leftOf, rightOf, pageOf, skipOf, lineOf, edgeOf, relativeStep, acrossOf, downOf, columnsOf, linesOf}
-use Rattle.printer.specs.Performing.{switchedOn, relativeMove, controlSettings, modeSettings, parameterSettings, settingsAfter, listOpened, stopAdded, listEnded, stopsAfter, controlPlace, placeAfter}
-use Rattle.printer.specs.Deciding.{switches, inRange, controlNeeds, relativeNeeds, stopNeeds}
-use Rattle.printer.specs.Bounds.{StopsTyped}
-use Rattle.printer.specs.InForce
-use Rattle.printer.specs.Reckoning
-use Rattle.printer.specs.InForce.{InForce, odd, enforceControl, enforceMode, enforceParameter, enforce}
-use Rattle.printer.specs.Reckoning.{Prints, letter, imageByte, neither, printing, Axis, moved, acrossByControl, acrossBy, downByControl, downBy, Reckoning}
-use Rattle.printer.specs.declared.commands.Command.{Command}
-use Rattle.printer.specs.declared.commands.Control.{Control}
-use Rattle.printer.specs.declared.commands.Mode.{Mode}
-use Rattle.printer.specs.declared.commands.Parameter.{Parameter}
-use Rattle.printer.specs.declared.commands.Tabs.{Tabs}
-use Rattle.printer.specs.declared.settings.Settings.{Settings}
-use Rattle.printer.specs.declared.state.Place.{Place}
-use Rattle.printer.specs.declared.state.Printer.{Printer}
-use Rattle.printer.specs.declared.stops.Stops.{Stops}
+use Rattle.printer.specs.Settings.{leftOf, rightOf, pageOf, skipOf, edgeOf, relativeStep, acrossOf, downOf}
+use Rattle.printer.specs.Escapes.{switches, switchedOn, modeRow, parameterRow, lookSettings}
+use Rattle.printer.specs.Performing.{stopOf, relativeMove, listStops, Effect, effectOfControl, effectAt}
+use Rattle.printer.specs.Deciding.{mostStops, controlNeeds, relativeNeeds, listNeeds}
+use Rattle.printer.specs.Accepted.{StopsTyped}
+use Rattle.printer.specs.InForce.{InForce, odd, hasBit, modeInForce, parameterInForce, ownStop, listInForce}
+use Rattle.printer.specs.Reckoning.{moves, Axis, moved, relativeMotion, Change, controlChange, changeOf, Reckoning}
+use Rattle.printer.specs.Types.{Command, Control, ListPart, Look, Mode, Move, Page, Parameter, Place, Printer, Settings, Side, Stops, Tabs}
 use Rattle.printer.proofs.Choices.{either-elim, within-fact}
 use Rattle.printer.proofs.StopLists.{one-more}
-use Rattle.printer.proofs.Legal.{Done}
-use Rattle.printer.proofs.Keeping.{Kept}
-
--- what is in force by a state's settings and stops, and an image step
-abbrev pub forceOf : Settings → Stops → ℕ → InForce
-forceOf s t n =
-    record {
-      width = s .width;
-      draft = s .draft;
-      step = n;
-      measures = record { left = leftOf s; right = rightOf s; page = pageOf s; skip = skipOf s; line = lineOf s };
-      lists =
-          record {
-            columns = columnsOf (t .columns);
-            lines = linesOf (t .lines);
-            gatheredcolumns = columnsOf (t .gatheredcolumns);
-            gatheredlines = linesOf (t .gatheredlines);
-          };
-    }
+use Rattle.printer.proofs.Legal.{forceOf, InStep, Done}
+use Rattle.printer.proofs.Keeping.{WithinBounds, Bounded}
 
 -- the reckoning at a state, with an image step and two places of its own
 abbrev pub from : Printer → ℕ → Axis → Axis → Reckoning
 from p n k j =
     record {
-      dAcross = perInchAcross (p .settings .setup .resolution);
-      dDown = perInchDown (p .settings .setup .resolution);
       force = forceOf (p .settings) (p .stops) n;
       across = k;
       down = j;
@@ -80,60 +51,59 @@ switched-odd n e =
     at : (m : ℕ) → n ≡ m → switchedOn m ≡ odd m → switchedOn n ≡ odd n
     at m k h = rw k h
 
--- what is in force is what settings and stops say, and the setup is that of the settings before
-abbrev pub Agrees : Settings → InForce → Settings → Stops → Type 0
-Agrees before f s t = (f ≡ forceOf s t (f .step)) × (s .setup ≡ before .setup)
+-- the reckoning's test of a bit is the rules'
+own-bit : (k n : ℕ) → (k ≤ n % (2 * k) → n / k % 2 ≡ 1) → (n % (2 * k) < k → n / k % 2 ≡ 1 → ⊥) → hasBit k n ≡ bit n k
+own-bit k n f g = go (leb k (n % (2 * k))) refl
+  where
+    go : (t : Bool) → leb k (n % (2 * k)) ≡ t → t ≡ eqb (n / k % 2) 1
+    go true e = sym (eq-eqb (n / k % 2) 1 (f (leb-true _ _ e)))
+    go false e = sym (ne-eqb (n / k % 2) 1 (g (leb-false _ _ e)))
+
+-- what is in force is what settings and stops say
+abbrev pub Agrees : InForce → Settings → Stops → Type 0
+Agrees f s t = f ≡ forceOf s t (f .step)
 
 module _ (s : Settings) (t : Stops) (n : ℕ) where
   abbrev pub here : InForce
   here = forceOf s t n
 
-  agree-mode : (c : Mode) → Agrees s (enforceMode here c) (modeSettings s c) t
-  agree-mode Mode.EighthInchLine = (refl, refl)
-  agree-mode Mode.SixthInchLine = (refl, refl)
-  agree-mode Mode.NoSkip = (refl, refl)
-  agree-mode Mode.WideOnce = (refl, refl)
-  agree-mode Mode.Reduced = (refl, refl)
-  agree-mode (Mode.Pitch p) = (refl, refl)
-  agree-mode (Mode.Bold x) = (refl, refl)
-  agree-mode (Mode.DoubleStrike x) = (refl, refl)
-  agree-mode (Mode.Italic x) = (refl, refl)
-  agree-mode Mode.NoScript = (refl, refl)
-  agree-mode (Mode.UpperPrints x) = (refl, refl)
+  agree-mode : (c : Mode) → Agrees (modeInForce here c) (modeRow c .sets s 0) t
+  agree-mode Mode.EighthInchLine = refl
+  agree-mode Mode.SixthInchLine = refl
+  agree-mode Mode.NoSkip = refl
+  agree-mode (Mode.Pitch p) = refl
+  agree-mode (Mode.UpperPrints x) = refl
 
-  agree-parameter : (c : Parameter) (m : ℕ) → inRange c m ≡ true → Agrees s (enforceParameter here c m) (parameterSettings s c m) t
-  unfolding inRange
-  agree-parameter Parameter.Line180ths m r = (refl, refl)
-  agree-parameter Parameter.Line60ths m r = (refl, refl)
-  agree-parameter Parameter.Line360ths m r = (refl, refl)
-  agree-parameter Parameter.Skip m r = (refl, refl)
-  agree-parameter Parameter.Spacing m r = (refl, refl)
-  agree-parameter Parameter.Proportional m r = (rw (switched-odd m r), refl)
-  agree-parameter Parameter.Script m r = (refl, refl)
-  agree-parameter Parameter.Quality m r = (rw (switched-odd m r), refl)
-  agree-parameter Parameter.DoubleWidth m r = (rw (switched-odd m r), refl)
-  agree-parameter Parameter.DoubleHeight m r = (refl, refl)
-  agree-parameter Parameter.Underline m r = (refl, refl)
-  agree-parameter Parameter.Download m r = (refl, refl)
-  agree-parameter Parameter.CodeTable m r = (refl, refl)
-  agree-parameter Parameter.Country m r = (refl, refl)
-  agree-parameter Parameter.Outline m r = (refl, refl)
-  agree-parameter Parameter.Font m r = (refl, refl)
-  agree-parameter Parameter.Master m r = (refl, refl)
+  agree-parameter : (c : Parameter) (m : ℕ) → parameterRow c .takes m ≡ true → Agrees (parameterInForce here c m) (parameterRow c .sets s m) t
+  agree-parameter Parameter.Line180ths m r = refl
+  agree-parameter Parameter.Line60ths m r = refl
+  agree-parameter Parameter.Line360ths m r = refl
+  agree-parameter Parameter.Spacing m r = refl
+  agree-parameter Parameter.Proportional m r = rw (switched-odd m r)
+  agree-parameter Parameter.Quality m r = rw (switched-odd m r)
+  agree-parameter Parameter.DoubleWidth m r = rw (switched-odd m r)
+  agree-parameter Parameter.Master m r =
+      rw (own-bit 1 m (omega arith) (omega arith), own-bit 2 m (omega arith) (omega arith), own-bit 4 m (omega arith) (omega arith), own-bit 32 m (omega arith) (omega arith))
 
-  agree-opened : (k : Tabs) → Agrees s (InForce.openList here k) s (listOpened t k)
-  agree-opened Tabs.Horizontal = (refl, refl)
-  agree-opened Tabs.Vertical = (refl, refl)
+  -- what only shows on a record is not in force
+  agree-look : (k : Look) → Agrees here (lookSettings s k) t
+  agree-look (Look.Switch w) = refl
+  agree-look (Look.Choice c m) = refl
 
-  agree-added : (k : Tabs) (b : ℕ) → StopsTyped t → Holds (stopNeeds s t k b) → Agrees s (InForce.addStop here k b) s (stopAdded s t k b)
-  agree-added Tabs.Horizontal b y h =
-      (rw (one-more (t .gatheredcolumns .count) (t .gatheredcolumns .stops) b (omega (arith, y .gatheredcolumns))), refl)
-  agree-added Tabs.Vertical b y h =
-      (rw (one-more (t .gatheredlines .count) (t .gatheredlines .stops) (b * lineOf s) (omega (arith, y .gatheredlines))), refl)
+  own-stop : (k : Tabs) (b : ℕ) → ownStop here k b ≡ stopOf s k b
+  own-stop Tabs.Horizontal b = refl
+  own-stop Tabs.Vertical b = refl
 
-  agree-ended : (k : Tabs) → Agrees s (InForce.endList here k) s (listEnded t k)
-  agree-ended Tabs.Horizontal = (refl, refl)
-  agree-ended Tabs.Vertical = (refl, refl)
+  most-fit : (k : Tabs) → mostStops k ≤ 32
+  most-fit Tabs.Horizontal = omega arith
+  most-fit Tabs.Vertical = omega arith
+
+  agree-list : (k : Tabs) (part : ListPart) → StopsTyped t → Holds (listNeeds s t k part) → Agrees (listInForce here k part) s (listStops s t k part)
+  agree-list k ListPart.Open y h = refl
+  agree-list k (ListPart.Byte b) y h =
+      rw (own-stop k b, one-more (t .gathered .count) (t .gathered .stops) (stopOf s k b) (omega (arith, y .gathered, most-fit k)))
+  agree-list Tabs.Horizontal (ListPart.End b) y h = refl
+  agree-list Tabs.Vertical (ListPart.End b) y h = refl
 
 -- The reckoned places, and what is in force, after a command
 
@@ -141,24 +111,43 @@ module _ (s : Settings) (t : Stops) (n : ℕ) where
 abbrev pub At : Axis → ℕ → Type 0
 At k n = k .set + k .forth ≡ n + k .back
 
+-- a command's row in the reckoning agrees with its row in the rules
+pub record Follows (f : Change) (l : Effect) (k j : Axis) : Type 0 where
+  pub force : Agrees (f .force) (l .settings) (l .stops)
+  pub across : At (moved k (f .across)) (acrossOf (l .place))
+  pub down : At (moved j (f .down)) (downOf (l .place))
+  pub writing : f .writing ≡ l .writing
+
+follows : {f : Change} {l : Effect} {k j : Axis} → Agrees (f .force) (l .settings) (l .stops) → At (moved k (f .across)) (acrossOf (l .place))
+    → At (moved j (f .down)) (downOf (l .place)) → f .writing ≡ l .writing → Follows f l k j
+follows e a d w = record { force = e; across = a; down = d; writing = w }
+
 module _ (s : Settings) (t : Stops) (x : Place) (n : ℕ) where
-  pub follow-control : (c : Control) (told : ℕ) (k j : Axis) → Holds (controlNeeds s t x c told) → At k (acrossOf x) → At j (downOf x)
-      → Agrees s (enforceControl (forceOf s t n) c) (controlSettings s c) t
-      × At (moved k (acrossByControl (forceOf s t n) c told)) (acrossOf (controlPlace s t x c told))
-      × At (moved j (downByControl (forceOf s t n) c told)) (downOf (controlPlace s t x c told))
-  follow-control Control.CarriageReturn told k j h a d = ((refl, refl), refl, d)
-  follow-control Control.LineFeed zero k j h a d = ((refl, refl), refl, omega arith)
-  follow-control Control.LineFeed (suc m) k j h a d = ((refl, refl), refl, refl)
-  follow-control Control.FormFeed told k j h a d = ((refl, refl), refl, refl)
-  follow-control Control.HorizontalTab zero k j h a d = ((refl, refl), a, d)
-  follow-control Control.HorizontalTab (suc m) k j h a d = ((refl, refl), refl, d)
-  follow-control Control.VerticalTab zero k j h a d = ((refl, refl), a, d)
-  follow-control Control.VerticalTab (suc m) k j h a d = ((refl, refl), refl, refl)
-  follow-control Control.Backspace told k j h a d = ((refl, refl), omega arith, d)
-  follow-control Control.ShiftOut told k j h a d = ((refl, refl), a, d)
-  follow-control Control.ShiftIn told k j h a d = ((refl, refl), a, d)
-  follow-control Control.Dc2 told k j h a d = ((refl, refl), a, d)
-  follow-control Control.Dc4 told k j h a d = ((refl, refl), a, d)
+  pub follow-control : (c : Control) (m : ℕ) (k j : Axis) → Holds (controlNeeds s t x c m) → At k (acrossOf x) → At j (downOf x)
+      → Follows (controlChange (forceOf s t n) c m) (effectOfControl s t x c m) k j
+  follow-control Control.CarriageReturn m k j h a d = follows refl refl d refl
+  follow-control Control.LineFeed zero k j h a d = follows refl refl (omega arith) refl
+  follow-control Control.LineFeed (suc m) k j h a d = let e : m ≡ 0 = omega arith in follows refl refl refl (rw e)
+  follow-control Control.FormFeed m k j h a d = follows refl refl refl refl
+  follow-control Control.HorizontalTab zero k j h a d = follows refl a d refl
+  follow-control Control.HorizontalTab (suc m) k j h a d = follows refl refl d refl
+  follow-control Control.VerticalTab zero k j h a d = follows refl a d refl
+  follow-control Control.VerticalTab (suc m) k j h a d = follows refl refl refl refl
+  follow-control Control.Backspace m k j h a d = follows refl (omega arith) d refl
+  follow-control Control.ShiftOut m k j h a d = follows refl a d refl
+  follow-control Control.ShiftIn m k j h a d = follows refl a d refl
+  follow-control Control.Dc2 m k j h a d = follows refl a d refl
+  follow-control Control.Dc4 m k j h a d = follows refl a d refl
+
+-- ESC J: less the pages times the edge
+feed-down : (s : Settings) (x : Place) (v m : ℕ) (j : Axis)
+    → Holds (_upTo_ m ((downOf x + 20 * v) / edgeOf s) ∷ _upTo_ ((downOf x + 20 * v) / edgeOf s) m ∷ []) → WithinBounds s x → At j (downOf x)
+    → At (moved j (moves (20 * v + m * skipOf s) (m * pageOf s))) ((downOf x + 20 * v) % edgeOf s)
+feed-down s x v m j h f d =
+    let e : m ≡ (downOf x + 20 * v) / edgeOf s = omega arith in
+    let g : edgeOf s + skipOf s ≡ pageOf s = omega arith in
+    let i : m * edgeOf s + m * skipOf s ≡ m * pageOf s = omega (arith, ap (λ (u : ℕ). m * u) g) in
+    omega (arith, rw (← e) at (div-add-mod' (downOf x + 20 * v) (edgeOf s)))
 
 -- ESC \: the signed number of steps, forth by the two bytes and back by 65,536 if it is negative
 module _ (k : Axis) (x n m step : ℕ) (e : At k x) where
@@ -167,12 +156,12 @@ module _ (k : Axis) (x n m step : ℕ) (e : At k x) where
   forth-back h l = omega (arith, ap (λ (v : ℕ). v * step) h)
 
 follow-relative : (s : Settings) (t : Stops) (x : Place) (n a b : ℕ) (k : Axis) → a ≤ 255 → b ≤ 255 → Holds (relativeNeeds s x (a + 256 * b))
-    → At k (acrossOf x) → At (moved k (Reckoning.relativeMotion (forceOf s t n) a b)) (relativeMove (acrossOf x) (a + 256 * b) (relativeStep s))
+    → At k (acrossOf x) → At (moved k (relativeMotion (forceOf s t n) a b)) (relativeMove (acrossOf x) (a + 256 * b) (relativeStep s))
 follow-relative s t x n a b k ha hb h e = go (ltb (a + 256 * b) 0x8000) refl h
   where
     go : (u : Bool) → ltb (a + 256 * b) 0x8000 ≡ u
         → Holds (pick u (_upTo_ (acrossOf x + (a + 256 * b) * relativeStep s) (rightOf s) ∷ []) (_upTo_ (leftOf s + (0x10000 - (a + 256 * b)) * relativeStep s) (acrossOf x) ∷ []))
-        → At (moved k (Reckoning.relativeMotion (forceOf s t n) a b))
+        → At (moved k (relativeMotion (forceOf s t n) a b))
         (pick u (acrossOf x + (a + 256 * b) * relativeStep s) (acrossOf x - (0x10000 - (a + 256 * b)) * relativeStep s))
     go true u l = let v : a + 256 * b < 0x8000 = ltb-true _ _ u in rw (lt-leb 128 b (omega arith)) (omega arith)
     go false u l =
@@ -180,38 +169,27 @@ follow-relative s t x n a b k ha hb h e = go (ltb (a + 256 * b) 0x8000) refl h
         rw (le-leb 128 b (omega arith))
         (forth-back k (acrossOf x) (a + 256 * b) (0x10000 - (a + 256 * b)) (relativeStep s) e (omega arith) (omega arith))
 
--- an image byte moves by the step in force, which is that of its opening
-abbrev pub InStep : Prints → ℕ → Type 0
-InStep (letter b) n = Unit
-InStep (imageByte d b) n = n ≡ imageStep d
-InStep neither n = Unit
-
-pub follow : (p : Printer) (n : ℕ) (c : Command) (told : ℕ) (k j : Axis) → Done p c told → InStep (printing c) n → Kept p
+pub follow : (p : Printer) (n : ℕ) (c : Command) (m : ℕ) (k j : Axis) → Done p c m → InStep c n → Bounded p
     → At k (acrossOf (p .place)) → At j (downOf (p .place))
-    → Agrees (p .settings) (enforce (forceOf (p .settings) (p .stops) n) c) (settingsAfter (p .settings) c) (stopsAfter (p .settings) (p .stops) c)
-    × At (moved k (acrossBy (forceOf (p .settings) (p .stops) n) c told)) (acrossOf (placeAfter (p .settings) (p .stops) (p .place) c told))
-    × At (moved j (downBy (forceOf (p .settings) (p .stops) n) c told)) (downOf (placeAfter (p .settings) (p .stops) (p .place) c told))
-follow p n (Command.Letter b) told k j h i f a d = ((refl, refl), omega arith, d)
-follow p n (Command.Control c b) told k j h i f a d = follow-control (p .settings) (p .stops) (p .place) n c told k j (h .needs) a d
-follow p n (Command.Escape b) told k j h i f a d = ((refl, refl), a, d)
-follow p n (Command.Unlisted b) told k j h i f a d = ((refl, refl), a, d)
-follow p n (Command.UnlistedEscape b) told k j h i f a d = ((refl, refl), a, d)
-follow p n Command.Reset told k j h i f a d = ((refl, refl), refl, refl)
-follow p n (Command.Mode c) told k j h i f a d = (agree-mode (p .settings) (p .stops) n c, a, d)
-follow p n (Command.Parameter c m) told k j h i f a d = (agree-parameter (p .settings) (p .stops) n c m (h .range c m refl), a, d)
-follow p n (Command.Feed m) told k j h i f a d =
-    let q = h .needs in
-    let v : told ≡ (downOf (p .place) + 20 * m) / edgeOf (p .settings) = omega arith in
-    ((refl, refl), a, rw v (omega (arith, div-add-mod' (downOf (p .place) + 20 * m) (edgeOf (p .settings)))))
-follow p n (Command.LeftMargin m) told k j h i f a d = ((refl, refl), refl, d)
-follow p n (Command.RightMargin m) told k j h i f a d = ((refl, refl), refl, d)
-follow p n (Command.PageLines m) told k j h i f a d = ((refl, refl), a, refl)
-follow p n (Command.PageInches m) told k j h i f a d = ((refl, refl), a, refl)
-follow p n (Command.Absolute u b) told k j h i f a d = ((refl, refl), refl, d)
-follow p n (Command.Relative u b) told k j h i f a d =
-    ((refl, refl), follow-relative (p .settings) (p .stops) (p .place) n u b k (h .bytes .1 .0) (h .bytes .1 .1 .0) (h .needs) a, d)
-follow p n (Command.OpenImage u b m) told k j h i f a d = ((refl, refl), a, d)
-follow p n (Command.ImageByte u b) told k j h i f a d = ((refl, refl), omega arith, d)
-follow p n (Command.OpenList u) told k j h i f a d = (agree-opened (p .settings) (p .stops) n u, a, d)
-follow p n (Command.ListByte u b) told k j h i f a d = (agree-added (p .settings) (p .stops) n u b (f .stops .typed) (h .needs), a, d)
-follow p n (Command.EndList u b) told k j h i f a d = (agree-ended (p .settings) (p .stops) n u, a, d)
+    → Follows (changeOf (forceOf (p .settings) (p .stops) n) c m) (effectAt p c m) k j
+follow p n (Command.Letter b) m k j h i f a d = follows refl (omega arith) d refl
+follow p n (Command.Control c b) m k j h i f a d = follow-control (p .settings) (p .stops) (p .place) n c m k j (h .needs) a d
+follow p n (Command.Refused r) m k j h i f a d = follows refl a d refl
+follow p n (Command.Silent c) m k j h i f a d = follows refl a d refl
+follow p n Command.Reset m k j h i f a d = follows refl refl refl refl
+follow p n (Command.Mode c) m k j h i f a d = follows (agree-mode (p .settings) (p .stops) n c) a d refl
+follow p n (Command.Parameter c v) m k j h i f a d =
+    follows (agree-parameter (p .settings) (p .stops) n c v (h .range .parameter c v refl)) a d refl
+follow p n (Command.Look c) m k j h i f a d = follows (agree-look (p .settings) (p .stops) n c) a d refl
+follow p n (Command.Skip v) m k j h i f a d = follows refl a d refl
+follow p n (Command.Feed v) m k j h i f a d = follows refl a (feed-down (p .settings) (p .place) v m j (h .needs) (f .within) d) refl
+follow p n (Command.Margin Side.Left v) m k j h i f a d = follows refl refl d refl
+follow p n (Command.Margin Side.Right v) m k j h i f a d = follows refl refl d refl
+follow p n (Command.Page (Page.Lines v)) m k j h i f a d = follows refl a refl refl
+follow p n (Command.Page (Page.Inches v)) m k j h i f a d = follows refl a refl refl
+follow p n (Command.Move Move.Absolute u b) m k j h i f a d = follows refl refl d refl
+follow p n (Command.Move Move.Relative u b) m k j h i f a d =
+    follows refl (follow-relative (p .settings) (p .stops) (p .place) n u b k (h .bytes .1 .0) (h .bytes .1 .1 .0) (h .needs) a) d refl
+follow p n (Command.OpenImage u b v) m k j h i f a d = follows refl a d refl
+follow p n (Command.ImageByte u b) m k j h i f a d = let e = i u b refl in follows refl (omega arith) d (rw e)
+follow p n (Command.List u part) m k j h i f a d = follows (agree-list (p .settings) (p .stops) n u part (f .stops .typed) (h .needs)) a d refl

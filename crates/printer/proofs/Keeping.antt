@@ -1,201 +1,237 @@
--- Events keep the bounds.
-use Prim.Native.Nat.{ℕ, zero, suc, _+_, _*_, _-_, _%_, _≤_, _<_}
+-- Events keep the bounds, and what they write can be written.
+use Prim.Native.Nat.{ℕ, zero, suc, _+_, _*_, _-_, _/_, _%_, _≤_, _<_}
 use mathlib.Core.Path.{_≡_, refl}
 use mathlib.Core.Bool.{Bool, true, false}
 use mathlib.Core.List.{List, [], _∷_}
 use native.Mathlib.Omega.{arith}
-use native.Mathlib.Nat.{mod-lt}
+use native.Mathlib.Nat.{mod-lt, div-add-mod', mul-le-mul-left}
 use lib.Dec.{ltb}
 use lib.ListN.{length-set}
 use borrow.Author.Tests.{leb-true}
-use Rattle.printer.specs.Tools.{pick, _upTo_, Holds}
+use Rattle.printer.specs.Tools.{pick, _upTo_, Holds, Bytes}
+use Rattle.printer.specs.Widths.{base, doubleWidth, advance, imageStep}
 use Rattle.printer.specs.Settings.{leftOf, rightOf, edgeOf, relativeStep, acrossOf, downOf, at}
-use Rattle.printer.specs.Performing.{Event, done, passed, inside, automatic, modeSettings, controlSettings, parameterSettings, controlPlace, listOpened, stopAdded, listEnded, relativeMove, perform, performAll}
-use Rattle.printer.specs.Deciding.{inRange, parameterNeeds, relativeNeeds, needs, controlNeeds}
-use Rattle.printer.specs.Bounds.{settingsBounds, placeBounds, columnBounds, lineBounds, StopsTyped}
-use Rattle.printer.specs.declared.commands.Command.{Command}
-use Rattle.printer.specs.declared.commands.Control.{Control}
-use Rattle.printer.specs.declared.commands.Mode.{Mode}
-use Rattle.printer.specs.declared.commands.Parameter.{Parameter}
-use Rattle.printer.specs.declared.commands.Tabs.{Tabs}
-use Rattle.printer.specs.declared.settings.Settings.{Settings}
-use Rattle.printer.specs.declared.state.Place.{Place}
-use Rattle.printer.specs.declared.state.Printer.{Printer}
-use Rattle.printer.specs.declared.stops.Stops.{Stops}
+use Rattle.printer.specs.Escapes.{modeRow, parameterRow, choiceRow, lookTakes, lookSettings}
+use Rattle.printer.specs.Codes.{spelt}
+use Rattle.printer.specs.Performing.{Event, done, passed, inside, automatic, Writing, silent, letter, imageByte, feed, clear, controlEffect, effectAt, listStops, relativeMove, perform, performAll}
+use Rattle.printer.specs.Deciding.{relativeNeeds, controlNeeds}
+use Rattle.printer.specs.Bounds.{settingsBounds, placeBounds, columnBounds, lineBounds}
+use Rattle.printer.specs.Accepted.{StopsTyped}
+use Rattle.printer.specs.Types.{Choice, Command, Control, Density, ListPart, Look, Mode, Move, Parameter, Pitch, Place, Printer, Settings, Side, Stops, Switch, Tabs, Width}
 use Rattle.printer.proofs.Accepting.{power-on-accepted, power-on-typed}
 use Rattle.printer.proofs.Legal.{Gathered, Done, Legal, LegalAll}
 
--- settings and place within their bounds, and the font a byte
-abbrev pub Fine : Settings → Place → Type 0
-Fine s x = Holds (settingsBounds s) × Holds (placeBounds s x) × (s .face .font ≤ 255)
+-- Widths
 
-keep-mode : (s : Settings) (x : Place) (c : Mode) → Fine s x → Fine (modeSettings s c) x
+base-le : (p : Pitch) (reduced proportional : Bool) → base p reduced proportional ≤ 360
+base-le Pitch.Cpi10 false false = omega arith
+base-le Pitch.Cpi12 false false = omega arith
+base-le Pitch.Cpi15 false false = omega arith
+base-le Pitch.Cpi10 true false = omega arith
+base-le Pitch.Cpi12 true false = omega arith
+base-le Pitch.Cpi15 true false = omega arith
+base-le p false true = omega arith
+base-le p true true = omega arith
+
+doubled-le : (on : Bool) (n m : ℕ) → n ≤ m → pick on 2 1 * n ≤ 2 * m
+doubled-le true n m h = omega arith
+doubled-le false n m h = omega arith
+
+pub advance-le : (w : Width) → w .spacing ≤ 127 → advance w ≤ 5800
+advance-le w h =
+    doubled-le (doubleWidth w) (base (w .pitch) (w .reduced) (w .proportional) + 20 * w .spacing) 2900
+    (omega (arith, base-le (w .pitch) (w .reduced) (w .proportional)))
+
+step-le : (d : Density) → imageStep d ≤ 60
+step-le Density.Single = omega arith
+step-le Density.Double = omega arith
+step-le Density.DoubleSpeed = omega arith
+step-le Density.Quadruple = omega arith
+
+-- the pages that ESC J turns are few
+pages-fit : (down n edge : ℕ) → down ≤ 79200 → n ≤ 255 → 3600 ≤ edge → (down + 20 * n) / edge ≤ 255
+pages-fit down n edge h k m =
+    omega (arith, div-add-mod' (down + 20 * n) edge, mul-le-mul-left ((down + 20 * n) / edge) m)
+
+-- Settings and places
+
+-- settings and place within their bounds, and the font a byte
+abbrev pub WithinBounds : Settings → Place → Type 0
+WithinBounds s x = Holds (settingsBounds s) × Holds (placeBounds s x) × (s .face .font ≤ 255)
+
+keep-mode : (s : Settings) (x : Place) (c : Mode) → WithinBounds s x → WithinBounds (modeRow c .sets s 0) x
 keep-mode s x Mode.EighthInchLine f = omega arith
 keep-mode s x Mode.SixthInchLine f = omega arith
 keep-mode s x Mode.NoSkip f = omega arith
-keep-mode s x Mode.WideOnce f = f
-keep-mode s x Mode.Reduced f = f
 keep-mode s x (Mode.Pitch p) f = f
-keep-mode s x (Mode.Bold b) f = f
-keep-mode s x (Mode.DoubleStrike b) f = f
-keep-mode s x (Mode.Italic b) f = f
-keep-mode s x Mode.NoScript f = f
 keep-mode s x (Mode.UpperPrints b) f = f
 
-keep-parameter : (s : Settings) (x : Place) (c : Parameter) (n : ℕ) → n ≤ 255 → inRange c n ≡ true → Holds (parameterNeeds s x c n)
-    → Fine s x → Fine (parameterSettings s c n) x
-unfolding inRange
-keep-parameter s x Parameter.Line180ths n b r h f = omega arith
-keep-parameter s x Parameter.Line60ths n b r h f = let k : n ≤ 85 = leb-true _ _ r in omega arith
-keep-parameter s x Parameter.Line360ths n b r h f = omega arith
-keep-parameter s x Parameter.Skip n b r h f = omega arith
-keep-parameter s x Parameter.Spacing n b r h f = omega arith
-keep-parameter s x Parameter.Proportional n b r h f = f
-keep-parameter s x Parameter.Script n b r h f = f
-keep-parameter s x Parameter.Quality n b r h f = f
-keep-parameter s x Parameter.DoubleWidth n b r h f = f
-keep-parameter s x Parameter.DoubleHeight n b r h f = f
-keep-parameter s x Parameter.Underline n b r h f = f
-keep-parameter s x Parameter.Download n b r h f = f
-keep-parameter s x Parameter.CodeTable n b r h f = f
-keep-parameter s x Parameter.Country n b r h f = rw r (omega arith)
-keep-parameter s x Parameter.Outline n b r h f = let k : n ≤ 3 = leb-true _ _ r in omega arith
-keep-parameter s x Parameter.Font n b r h f = omega arith
-keep-parameter s x Parameter.Master n b r h f = f
+keep-parameter : (s : Settings) (x : Place) (c : Parameter) (n : ℕ) → n ≤ 255 → parameterRow c .takes n ≡ true → WithinBounds s x
+    → WithinBounds (parameterRow c .sets s n) x
+keep-parameter s x Parameter.Line180ths n b r f = omega arith
+keep-parameter s x Parameter.Line60ths n b r f = let k : n ≤ 85 = leb-true _ _ r in omega arith
+keep-parameter s x Parameter.Line360ths n b r f = omega arith
+keep-parameter s x Parameter.Spacing n b r f = omega arith
+keep-parameter s x Parameter.Proportional n b r f = f
+keep-parameter s x Parameter.Quality n b r f = f
+keep-parameter s x Parameter.DoubleWidth n b r f = f
+keep-parameter s x Parameter.Master n b r f = f
 
-pub keep-control : (s : Settings) (t : Stops) (x : Place) (c : Control) (told : ℕ) → Holds (controlNeeds s t x c told)
-    → Fine s x → Fine (controlSettings s c) (controlPlace s t x c told)
-keep-control s t x Control.CarriageReturn told h f = omega arith
-keep-control s t x Control.LineFeed zero h f = omega arith
-keep-control s t x Control.LineFeed (suc n) h f = omega arith
-keep-control s t x Control.FormFeed told h f = omega arith
-keep-control s t x Control.HorizontalTab zero h f = f
-keep-control s t x Control.HorizontalTab (suc n) h f = omega arith
-keep-control s t x Control.VerticalTab zero h f = f
-keep-control s t x Control.VerticalTab (suc n) h f = omega arith
-keep-control s t x Control.Backspace told h f = omega arith
-keep-control s t x Control.ShiftOut told h f = f
-keep-control s t x Control.ShiftIn told h f = f
-keep-control s t x Control.Dc2 told h f = f
-keep-control s t x Control.Dc4 told h f = f
+keep-switch : (s : Settings) (x : Place) (w : Switch) → WithinBounds s x → WithinBounds (lookSettings s (Look.Switch w)) x
+keep-switch s x (Switch.Bold on) f = f
+keep-switch s x (Switch.DoubleStrike on) f = f
+keep-switch s x (Switch.Italic on) f = f
+keep-switch s x Switch.NoScript f = f
 
-keep-relative : (s : Settings) (x : Place) (n : ℕ) → Holds (relativeNeeds s x n) → Fine s x
-    → Fine s (at (relativeMove (acrossOf x) n (relativeStep s)) (downOf x))
+keep-choice : (s : Settings) (x : Place) (c : Choice) (n : ℕ) → n ≤ 255 → choiceRow c .takes n ≡ true → WithinBounds s x
+    → WithinBounds (lookSettings s (Look.Choice c n)) x
+keep-choice s x Choice.Script n b r f = f
+keep-choice s x Choice.Underline n b r f = f
+keep-choice s x Choice.DoubleHeight n b r f = f
+keep-choice s x Choice.Outline n b r f = let k : n ≤ 3 = leb-true _ _ r in omega arith
+keep-choice s x Choice.CodeTable n b r f = f
+keep-choice s x Choice.Font n b r f = omega arith
+keep-choice s x Choice.Country n b r f = rw r (omega arith)
+keep-choice s x Choice.Download n b r f = f
+
+-- what is written has bytes, advances and pages that fit their fields, and is within the right margin
+abbrev pub Writable : Settings → Place → Writing → Type 0
+Writable s x silent = Unit
+Writable s x (letter b n) = (b ≤ 255) × (n ≤ 65535) × (acrossOf x + n ≤ rightOf s)
+Writable s x (imageByte b n) = (b ≤ 255) × (n ≤ 65535) × (acrossOf x + n ≤ rightOf s)
+Writable s x (feed pages) = pages ≤ 255
+Writable s x clear = Unit
+
+module _ (s : Settings) (t : Stops) (x : Place) where
+  pub keep-control : (c : Control) (n : ℕ) → Holds (controlNeeds s t x c n) → WithinBounds s x
+      → WithinBounds (controlEffect s t x c n .settings) (controlEffect s t x c n .place) × Writable s x (controlEffect s t x c n .writing)
+  keep-control Control.CarriageReturn n h f = (omega arith, tt)
+  keep-control Control.LineFeed zero h f = (omega arith, omega arith)
+  keep-control Control.LineFeed (suc m) h f = (omega arith, omega arith)
+  keep-control Control.FormFeed n h f = (omega arith, omega arith)
+  keep-control Control.HorizontalTab zero h f = (f, tt)
+  keep-control Control.HorizontalTab (suc m) h f = (omega arith, tt)
+  keep-control Control.VerticalTab zero h f = (f, tt)
+  keep-control Control.VerticalTab (suc m) h f = (omega arith, omega arith)
+  keep-control Control.Backspace n h f = (omega arith, tt)
+  keep-control Control.ShiftOut n h f = (f, tt)
+  keep-control Control.ShiftIn n h f = (f, tt)
+  keep-control Control.Dc2 n h f = (f, tt)
+  keep-control Control.Dc4 n h f = (f, tt)
+
+keep-relative : (s : Settings) (x : Place) (n : ℕ) → Holds (relativeNeeds s x n) → WithinBounds s x
+    → WithinBounds s (at (relativeMove (acrossOf x) n (relativeStep s)) (downOf x))
 keep-relative s x n h f = go (ltb n 0x8000) h
   where
     go : (t : Bool)
         → Holds (pick t (_upTo_ (acrossOf x + n * relativeStep s) (rightOf s) ∷ []) (_upTo_ (leftOf s + (0x10000 - n) * relativeStep s) (acrossOf x) ∷ []))
-        → Fine s (at (pick t (acrossOf x + n * relativeStep s) (acrossOf x - (0x10000 - n) * relativeStep s)) (downOf x))
+        → WithinBounds s (at (pick t (acrossOf x + n * relativeStep s) (acrossOf x - (0x10000 - n) * relativeStep s)) (downOf x))
     go true k = omega arith
     go false k = omega arith
 
+-- Stops
+
 -- stops within their bounds, in arrays of their lengths
-pub record StopsFine (t : Stops) : Type 0 where
+pub record StopsWithinBounds (t : Stops) : Type 0 where
   pub typed : StopsTyped t
   pub columns : Holds (columnBounds t)
   pub lines : Holds (lineBounds t)
 
-keep-opened : (t : Stops) (k : Tabs) → StopsFine t → StopsFine (listOpened t k)
-keep-opened t Tabs.Horizontal f =
+keep-stops : (s : Settings) (t : Stops) (k : Tabs) (part : ListPart) → ((b : ℕ) → part ≡ ListPart.End b → Gathered t k) → StopsWithinBounds t
+    → StopsWithinBounds (listStops s t k part)
+keep-stops s t k ListPart.Open g f =
     record {
-      typed = record { columns = f .typed .columns; lines = f .typed .lines; gatheredcolumns = refl; gatheredlines = f .typed .gatheredlines };
+      typed = record { columns = f .typed .columns; lines = f .typed .lines; gathered = refl };
       columns = f .columns;
       lines = f .lines;
     }
-keep-opened t Tabs.Vertical f =
+keep-stops s t k (ListPart.Byte b) g f =
     record {
-      typed = record { columns = f .typed .columns; lines = f .typed .lines; gatheredcolumns = f .typed .gatheredcolumns; gatheredlines = refl };
+      typed = record { columns = f .typed .columns; lines = f .typed .lines; gathered = simp length-set (f .typed .gathered) };
       columns = f .columns;
       lines = f .lines;
     }
-
-keep-added : (s : Settings) (t : Stops) (k : Tabs) (n : ℕ) → StopsFine t → StopsFine (stopAdded s t k n)
-keep-added s t Tabs.Horizontal n f =
+keep-stops s t Tabs.Horizontal (ListPart.End b) g f =
     record {
-      typed =
-          record {
-            columns = f .typed .columns;
-            lines = f .typed .lines;
-            gatheredcolumns = simp length-set (f .typed .gatheredcolumns);
-            gatheredlines = f .typed .gatheredlines;
-          };
-      columns = f .columns;
+      typed = record { columns = f .typed .gathered; lines = f .typed .lines; gathered = refl };
+      columns = g b refl;
       lines = f .lines;
     }
-keep-added s t Tabs.Vertical n f =
+keep-stops s t Tabs.Vertical (ListPart.End b) g f =
     record {
-      typed =
-          record {
-            columns = f .typed .columns;
-            lines = f .typed .lines;
-            gatheredcolumns = f .typed .gatheredcolumns;
-            gatheredlines = simp length-set (f .typed .gatheredlines);
-          };
+      typed = record { columns = f .typed .columns; lines = f .typed .gathered; gathered = refl };
       columns = f .columns;
-      lines = f .lines;
-    }
-
-keep-ended : (t : Stops) (k : Tabs) → Gathered t k → StopsFine t → StopsFine (listEnded t k)
-keep-ended t Tabs.Horizontal g f =
-    record {
-      typed = record { columns = f .typed .gatheredcolumns; lines = f .typed .lines; gatheredcolumns = refl; gatheredlines = f .typed .gatheredlines };
-      columns = g;
-      lines = f .lines;
-    }
-keep-ended t Tabs.Vertical g f =
-    record {
-      typed = record { columns = f .typed .columns; lines = f .typed .gatheredlines; gatheredcolumns = f .typed .gatheredcolumns; gatheredlines = refl };
-      columns = f .columns;
-      lines = g;
+      lines = g b refl;
     }
 
 -- Events
 
-pub record Kept (p : Printer) : Type 0 where
-  pub fine : Fine (p .settings) (p .place)
-  pub stops : StopsFine (p .stops)
+pub record Bounded (p : Printer) : Type 0 where
+  pub within : WithinBounds (p .settings) (p .place)
+  pub stops : StopsWithinBounds (p .stops)
 
-pub keep-done : (p : Printer) (c : Command) (told : ℕ) → Done p c told → Kept p → Kept (perform p (done c told))
-keep-done p (Command.Letter b) told h k = let n = h .needs in record { fine = omega arith; stops = k .stops }
-keep-done p (Command.Control c b) told h k =
-    record { fine = keep-control (p .settings) (p .stops) (p .place) c told (h .needs) (k .fine); stops = k .stops }
-keep-done p (Command.Escape b) told h k = k
-keep-done p (Command.Unlisted b) told h k = k
-keep-done p (Command.UnlistedEscape b) told h k = k
-keep-done p Command.Reset told h k =
-    let a = power-on-accepted (p .settings .setup) in
-    record {
-      fine = (a .settings, a .place, omega arith);
-      stops = record { typed = power-on-typed (p .settings .setup) .stops; columns = a .columns; lines = a .lines };
-    }
-keep-done p (Command.Mode c) told h k = record { fine = keep-mode (p .settings) (p .place) c (k .fine); stops = k .stops }
-keep-done p (Command.Parameter c n) told h k =
-    record { fine = keep-parameter (p .settings) (p .place) c n (h .bytes .1 .0) (h .range c n refl) (h .needs) (k .fine); stops = k .stops }
-keep-done p (Command.Feed n) told h k =
-    let m : (downOf (p .place) + 20 * n) % edgeOf (p .settings) < edgeOf (p .settings) = mod-lt (downOf (p .place) + 20 * n) (omega arith) in
-    record { fine = omega arith; stops = k .stops }
-keep-done p (Command.LeftMargin n) told h k = let m = h .needs in record { fine = omega arith; stops = k .stops }
-keep-done p (Command.RightMargin n) told h k = let m = h .needs in record { fine = omega arith; stops = k .stops }
-keep-done p (Command.PageLines n) told h k = let m = h .needs in record { fine = omega arith; stops = k .stops }
-keep-done p (Command.PageInches n) told h k = let m = h .needs in record { fine = omega arith; stops = k .stops }
-keep-done p (Command.Absolute a b) told h k = let m = h .needs in record { fine = omega arith; stops = k .stops }
-keep-done p (Command.Relative a b) told h k =
-    record { fine = keep-relative (p .settings) (p .place) (a + 256 * b) (h .needs) (k .fine); stops = k .stops }
-keep-done p (Command.OpenImage d a b) told h k = k
-keep-done p (Command.ImageByte d b) told h k = let m = h .needs in record { fine = omega arith; stops = k .stops }
-keep-done p (Command.OpenList t) told h k = record { fine = k .fine; stops = keep-opened (p .stops) t (k .stops) }
-keep-done p (Command.ListByte t b) told h k = record { fine = k .fine; stops = keep-added (p .settings) (p .stops) t b (k .stops) }
-keep-done p (Command.EndList t b) told h k = record { fine = k .fine; stops = keep-ended (p .stops) t (h .given) (k .stops) }
+keep-look : (s : Settings) (x : Place) (k : Look) → Bytes (spelt (Command.Look k)) → lookTakes k ≡ true → WithinBounds s x
+    → WithinBounds (lookSettings s k) x
+keep-look s x (Look.Switch w) b r f = keep-switch s x w f
+keep-look s x (Look.Choice c n) b r f = keep-choice s x c n (b .1 .0) r f
 
-pub keep : (p : Printer) (e : Event) → Legal p e → Kept p → Kept (perform p e)
-keep p (done c told) h k = keep-done p c told h k
+-- a command done leaves a state within the bounds, and writes what can be written
+abbrev pub Keeps : Printer → Command → ℕ → Type 0
+Keeps p c n = Bounded (perform p (done c n)) × Writable (p .settings) (p .place) (effectAt p c n .writing)
+
+pub keep-done : (p : Printer) (c : Command) (n : ℕ) → Done p c n → Bounded p → Keeps p c n
+keep-done p (Command.Letter b) n h k =
+    let m = h .needs in
+    let a = advance-le (p .settings .width) (omega arith) in
+    (record { within = omega arith; stops = k .stops }, (h .bytes .0, omega arith, m .0))
+keep-done p (Command.Control c b) n h k =
+    let m = keep-control (p .settings) (p .stops) (p .place) c n (h .needs) (k .within) in
+    (record { within = m .0; stops = k .stops }, m .1)
+keep-done p (Command.Refused r) n h k = (k, tt)
+keep-done p (Command.Silent c) n h k = (k, tt)
+keep-done p Command.Reset n h k =
+    let a = power-on-accepted (p .settings .setup) in (
+      record {
+        within = (a .settings, a .place, omega arith);
+        stops = record { typed = power-on-typed (p .settings .setup) .stops; columns = a .columns; lines = a .lines };
+      },
+      omega arith,
+    )
+keep-done p (Command.Mode c) n h k =
+    (record { within = keep-mode (p .settings) (p .place) c (k .within); stops = k .stops }, tt)
+keep-done p (Command.Parameter c a) n h k =
+    (record { within = keep-parameter (p .settings) (p .place) c a (h .bytes .1 .0) (h .range .parameter c a refl) (k .within); stops = k .stops }, tt)
+keep-done p (Command.Look c) n h k =
+    (record { within = keep-look (p .settings) (p .place) c (h .bytes) (h .range .look c refl) (k .within); stops = k .stops }, tt)
+keep-done p (Command.Skip a) n h k = let m = h .needs in (record { within = omega arith; stops = k .stops }, tt)
+keep-done p (Command.Feed a) n h k =
+    let m : (downOf (p .place) + 20 * a) % edgeOf (p .settings) < edgeOf (p .settings) = mod-lt (downOf (p .place) + 20 * a) (omega arith) in
+    let q = pages-fit (downOf (p .place)) a (edgeOf (p .settings)) (omega arith) (h .bytes .1 .0) (omega arith) in
+    let v = h .needs in
+    (record { within = omega arith; stops = k .stops }, omega arith)
+keep-done p (Command.Margin Side.Left a) n h k = let m = h .needs in (record { within = omega arith; stops = k .stops }, tt)
+keep-done p (Command.Margin Side.Right a) n h k = let m = h .needs in (record { within = omega arith; stops = k .stops }, tt)
+keep-done p (Command.Page g) n h k = let m = h .needs in (record { within = omega arith; stops = k .stops }, omega arith)
+keep-done p (Command.Move Move.Absolute a b) n h k = let m = h .needs in (record { within = omega arith; stops = k .stops }, tt)
+keep-done p (Command.Move Move.Relative a b) n h k =
+    (record { within = keep-relative (p .settings) (p .place) (a + 256 * b) (h .needs) (k .within); stops = k .stops }, tt)
+keep-done p (Command.OpenImage d a b) n h k = (k, tt)
+keep-done p (Command.ImageByte d b) n h k =
+    let m = h .needs in
+    let a = step-le d in
+    (record { within = omega arith; stops = k .stops }, (h .bytes .0, omega arith, m .0))
+keep-done p (Command.List t part) n h k =
+    (record { within = k .within; stops = keep-stops (p .settings) (p .stops) t part (λ b z. h .given .end t b (rw z)) (k .stops) }, tt)
+
+pub keep : (p : Printer) (e : Event) → Legal p e → Bounded p → Bounded (perform p e)
+keep p (done c n) h k = keep-done p c n h k .0
 keep p (passed c reason) h k = k
-keep p (inside c told) h k =
-    record { fine = keep-control (p .settings) (p .stops) (p .place) c told h (k .fine); stops = k .stops }
-keep p (automatic told) h k =
-    record { fine = keep-control (p .settings) (p .stops) (p .place) Control.LineFeed told (h .0) (k .fine); stops = k .stops }
+keep p (inside c n) h k =
+    record { within = keep-control (p .settings) (p .stops) (p .place) c n h (k .within) .0; stops = k .stops }
+keep p (automatic n) h k =
+    record { within = keep-control (p .settings) (p .stops) (p .place) Control.LineFeed n (h .0) (k .within) .0; stops = k .stops }
 
-pub keep-all : (p : Printer) (l : List Event) → LegalAll p l → Kept p → Kept (performAll p l)
+pub keep-all : (p : Printer) (l : List Event) → LegalAll p l → Bounded p → Bounded (performAll p l)
 unfolding performAll
 keep-all p [] h k = k
 keep-all p (e ∷ l) h k = keep-all (perform p e) l (h .1) (keep p e (h .0) k)

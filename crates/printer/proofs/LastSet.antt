@@ -29,11 +29,11 @@ last-set a (m ∷ before) n since h = last-set (moved a m) before n since h
 pub across-moved : (r : Reckoning) (l : List Occurrence) → reckonAll r l .across ≡ movedAll (r .across) (motions acrossMotion (r .force) l)
 unfolding reckonAll movedAll motions
 across-moved r [] = refl
-across-moved r (start resolution ∷ l) = across-moved (reckonNext r (start resolution)) l
+across-moved r (start settings ∷ l) = across-moved (reckonNext r (start settings)) l
 across-moved r (event e ∷ l) = across-moved (reckonNext r (event e)) l
 
 pub down-moved : (r : Reckoning) (l : List Occurrence) → reckonAll r l .down ≡ movedAll (r .down) (motions downMotion (r .force) l)
 unfolding reckonAll movedAll motions
 down-moved r [] = refl
-down-moved r (start resolution ∷ l) = down-moved (reckonNext r (start resolution)) l
+down-moved r (start settings ∷ l) = down-moved (reckonNext r (start settings)) l
 down-moved r (event e ∷ l) = down-moved (reckonNext r (event e)) l

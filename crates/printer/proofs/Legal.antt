@@ -10,87 +10,111 @@ use lib.ListN.{length, getD, length-append}
 use lib.Seq.{getD-append-seam, append-snoc}
 use borrow.Author.Tests.{leb-true, leb-false, ltb-true, eqb-true, eqb-false}
 use Rattle.printer.specs.Tools.{both, within, _upTo_, holds, Holds, Bytes}
+use Rattle.printer.specs.Units.{perInchAcross, perInchDown}
 use Rattle.printer.specs.Widths.{advance, imageStep}
-use Rattle.printer.specs.Settings.{acrossOf, leftOf, rightOf, edgeOf, lineOf, downOf, columnsOf, linesOf}
-use Rattle.printer.specs.Performing.{Event, done, passed, inside, automatic, lineFed, perform}
-use Rattle.printer.specs.Deciding.{inRange, tabNeeds, lineNeeds, controlNeeds, needsAt, attempt, ranged, pagesOfLine, letterEvents, feedAfterReturn, columnFrom, tabEvent, lineFrom, verticalEvents, vertical, controlEvents, decide}
-use Rattle.printer.specs.declared.stops.Stop.{Stop}
-use Rattle.printer.specs.Bounds.{lastOf, listBounds}
-use Rattle.printer.specs.Spelling.{spelt}
-use Rattle.printer.specs.Reckoning.{Prints, letter, imageByte, neither, printing}
-use Rattle.printer.specs.declared.commands.Command.{Command}
-use Rattle.printer.specs.declared.commands.Control.{Control}
-use Rattle.printer.specs.declared.commands.Parameter.{Parameter}
-use Rattle.printer.specs.declared.commands.Tabs.{Tabs}
-use Rattle.printer.specs.declared.settings.Settings.{Settings}
-use Rattle.printer.specs.declared.state.Place.{Place}
-use Rattle.printer.specs.declared.state.Printer.{Printer}
-use Rattle.printer.specs.declared.stops.Stops.{Stops}
+use Rattle.printer.specs.Settings.{acrossOf, leftOf, rightOf, pageOf, skipOf, lineOf, edgeOf, downOf, heldIn}
+use Rattle.printer.specs.Escapes.{parameterRow, lookTakes}
+use Rattle.printer.specs.Codes.{spelt}
+use Rattle.printer.specs.Performing.{Event, done, passed, inside, automatic, Writing, silent, letter, imageByte, feed, clear, stopOf, lineFed, perform}
+use Rattle.printer.specs.Deciding.{pageRange, reasonOf, mostStops, tabNeeds, lineNeeds, controlNeeds, needsAt, attempt, ranged, pagesOfLine, letterEvents, feedAfterReturn, columnFrom, tabEvent, lineFrom, verticalEvents, vertical, controlEvents, decide}
+use Rattle.printer.specs.Bounds.{lastOf, lastStop, listBounds}
+use Rattle.printer.specs.InForce.{InForce}
+use Rattle.printer.specs.Reckoning.{changeOf}
+use Rattle.printer.specs.Spelling.{Classified}
+use Rattle.printer.specs.Types.{Command, Control, Density, ListPart, Look, Parameter, Place, Printer, Settings, Stop, Stops, Tabs}
 use Rattle.printer.proofs.Choices.{pick-elim, holds-fact}
+use Rattle.printer.proofs.Frames.{known, NoList}
 
--- a parameter's argument is in its range; of other commands nothing is said
-abbrev pub InRange : Command → Type 0
-InRange c = (k : Parameter) (n : ℕ) → c ≡ Command.Parameter k n → inRange k n ≡ true
+-- what is in force by a state's settings and stops, and an image step
+abbrev pub forceOf : Settings → Stops → ℕ → InForce
+forceOf s t n =
+    record {
+      kept = record { dAcross = perInchAcross (s .setup .resolution); dDown = perInchDown (s .setup .resolution) };
+      width = s .width;
+      draft = s .draft;
+      upper = s .upperprints;
+      step = n;
+      measures = record { left = leftOf s; right = rightOf s; page = pageOf s; skip = skipOf s; line = lineOf s };
+      lists = record { columns = heldIn (t .columns); lines = heldIn (t .lines); gathered = heldIn (t .gathered) };
+    }
+
+-- a setting's argument is in its range; of other commands nothing is said
+pub record InRange (c : Command) : Type 0 where
+  pub parameter : (k : Parameter) (n : ℕ) → c ≡ Command.Parameter k n → parameterRow k .takes n ≡ true
+  pub look : (k : Look) → c ≡ Command.Look k → lookTakes k ≡ true
+
+pub free : {c : Command} → ((k : Parameter) (n : ℕ) → c ≡ Command.Parameter k n → _≡_ {A = ℕ} 0 1)
+    → ((k : Look) → c ≡ Command.Look k → _≡_ {A = ℕ} 0 1) → InRange c
+free f g =
+    record {
+      parameter = λ k n z. let e = f k n z in absurd (omega arith);
+      look = λ k z. let e = g k z in absurd (omega arith);
+    }
+
+takes-same : (c k : Parameter) (n m : ℕ) → Command.Parameter c n ≡ Command.Parameter k m → parameterRow c .takes n ≡ true
+    → parameterRow k .takes m ≡ true
+takes-same c k n m z h = let i : c ≡ k = cc in let e : n ≡ m = cc in rw (i, e) at h
+
+look-same : (k j : Look) → Command.Look k ≡ Command.Look j → lookTakes k ≡ true → lookTakes j ≡ true
+look-same k j z h = let i : k ≡ j = cc in rw i at h
 
 -- the list being gathered is within its bounds
 abbrev pub Gathered : Stops → Tabs → Type 0
-Gathered t Tabs.Horizontal = Holds (listBounds 32 255 (t .gatheredcolumns .count) (t .gatheredcolumns .stops))
-Gathered t Tabs.Vertical = Holds (listBounds 16 79199 (t .gatheredlines .count) (t .gatheredlines .stops))
+Gathered t k = Holds (listBounds (mostStops k) (lastStop k) (t .gathered))
 
 -- a list byte, made a stop, is above the list's last stop
 abbrev pub Above : Settings → Stops → Tabs → ℕ → Type 0
-Above s t Tabs.Horizontal b = lastOf 0 (columnsOf (t .gatheredcolumns)) < b
-Above s t Tabs.Vertical b = 1 ≤ b * lineOf s → lastOf 0 (linesOf (t .gatheredlines)) < b * lineOf s
+Above s t k b = 1 ≤ stopOf s k b → lastOf 0 (heldIn (t .gathered)) < stopOf s k b
 
--- what a command gets from what was waited for
-abbrev pub Given : Settings → Stops → Command → Type 0
-Given s t (Command.Letter b) = Unit
-Given s t (Command.Control c b) = Unit
-Given s t (Command.Escape b) = Unit
-Given s t (Command.Unlisted b) = Unit
-Given s t (Command.UnlistedEscape b) = Unit
-Given s t Command.Reset = Unit
-Given s t (Command.Mode c) = Unit
-Given s t (Command.Parameter c n) = Unit
-Given s t (Command.Feed n) = Unit
-Given s t (Command.LeftMargin n) = Unit
-Given s t (Command.RightMargin n) = Unit
-Given s t (Command.PageLines n) = Unit
-Given s t (Command.PageInches n) = Unit
-Given s t (Command.Absolute a b) = Unit
-Given s t (Command.Relative a b) = Unit
-Given s t (Command.OpenImage d a b) = Unit
-Given s t (Command.ImageByte d b) = Unit
-Given s t (Command.OpenList k) = Unit
-Given s t (Command.ListByte k b) = Gathered t k × Above s t k b
-Given s t (Command.EndList k b) = Gathered t k
+-- what a byte of a list gets from what was waited for; of other commands nothing is said
+pub record Given (s : Settings) (t : Stops) (c : Command) : Type 0 where
+  pub stop : (k : Tabs) (b : ℕ) → c ≡ Command.List k (ListPart.Byte b) → Gathered t k × Above s t k b
+  pub end : (k : Tabs) (b : ℕ) → c ≡ Command.List k (ListPart.End b) → Gathered t k
+
+pub given-none : (s : Settings) (t : Stops) (c : Command) → NoList c → Given s t c
+given-none s t c n =
+    record {
+      stop = λ k b z. let e = n k (ListPart.Byte b) z in absurd (omega arith);
+      end = λ k b z. let e = n k (ListPart.End b) z in absurd (omega arith);
+    }
 
 -- a command done: its bytes are bytes, its argument is in range, it has what it needs
-pub record Done (p : Printer) (c : Command) (told : ℕ) : Type 0 where
+pub record Done (p : Printer) (c : Command) (n : ℕ) : Type 0 where
   pub bytes : Bytes (spelt c)
   pub range : InRange c
-  pub needs : Holds (needsAt p c told)
+  pub needs : Holds (needsAt p c n)
   pub given : Given (p .settings) (p .stops) c
+  pub classified : Classified (p .settings .upperprints) c
+
+-- an image byte has this step
+abbrev pub InStep : Command → ℕ → Type 0
+InStep c n = (d : Density) (b : ℕ) → c ≡ Command.ImageByte d b → n ≡ imageStep d
 
 -- a letter or an image byte that is passed over does not fit, a letter at the left margin
-abbrev pub Unfit : Printer → Prints → Type 0
-Unfit p (letter b) =
-    (acrossOf (p .place) ≡ leftOf (p .settings))
-    × (rightOf (p .settings) < acrossOf (p .place) + advance (p .settings .width))
-Unfit p (imageByte d b) = rightOf (p .settings) < acrossOf (p .place) + imageStep d
-Unfit p neither = Unit
+abbrev pub Overflowing : Printer → (reason : ℕ) → Writing → Type 0
+Overflowing p reason silent = Unit
+Overflowing p reason (letter b n) =
+    (acrossOf (p .place) ≡ leftOf (p .settings)) × (rightOf (p .settings) < acrossOf (p .place) + n) × (reason ≡ 4)
+Overflowing p reason (imageByte b n) = (rightOf (p .settings) < acrossOf (p .place) + n) × (reason ≡ 4)
+Overflowing p reason (feed pages) = Unit
+Overflowing p reason clear = Unit
+
+-- by what the reckoning says that it would write
+abbrev pub PassedFor : Printer → Command → (reason : ℕ) → Type 0
+PassedFor p c reason = (n : ℕ) → InStep c n → Overflowing p reason (changeOf (forceOf (p .settings) (p .stops) n) c 0 .writing)
 
 pub record Passed (p : Printer) (c : Command) (reason : ℕ) : Type 0 where
   pub bytes : Bytes (spelt c)
   pub known : reason ≤ 5
-  pub unfit : Unfit p (printing c)
+  pub overflows : PassedFor p c reason
+  pub classified : Classified (p .settings .upperprints) c
 
 abbrev pub Legal : Printer → Event → Type 0
-Legal p (done c told) = Done p c told
+Legal p (done c n) = Done p c n
 Legal p (passed c reason) = Passed p c reason
-Legal p (inside c told) = Holds (controlNeeds (p .settings) (p .stops) (p .place) c told)
-Legal p (automatic told) =
-    Holds (lineNeeds (p .settings) (p .place) told)
+Legal p (inside c n) = Holds (controlNeeds (p .settings) (p .stops) (p .place) c n)
+Legal p (automatic n) =
+    Holds (lineNeeds (p .settings) (p .place) n)
     × (acrossOf (p .place) ≡ leftOf (p .settings) → ⊥)
     × (rightOf (p .settings) < acrossOf (p .place) + advance (p .settings .width))
 
@@ -131,8 +155,8 @@ vt b = Command.Control Control.VerticalTab b
 
 -- a claim about a command and its events, for each way that the rules decide
 pub record Ways (p : Printer) (P : Command → List Event → Type 0) : Type 0 where
-  pub does : (c : Command) (told : ℕ) → InRange c → Holds (needsAt p c told) → P c (done c told ∷ [])
-  pub passes : (c : Command) (reason : ℕ) → reason ≤ 5 → Unfit p (printing c) → P c (passed c reason ∷ [])
+  pub does : (c : Command) (n : ℕ) → InRange c → Holds (needsAt p c n) → P c (done c n ∷ [])
+  pub passes : (c : Command) (reason : ℕ) → reason ≤ 5 → PassedFor p c reason → P c (passed c reason ∷ [])
   -- a letter after an automatic line
   pub wraps : (b : ℕ) → Legal p (automatic (pagesOfLine p))
       → P (Command.Letter b) (automatic (pagesOfLine p) ∷ attempt (perform p (automatic (pagesOfLine p))) (Command.Letter b) 4 ∷ [])
@@ -141,8 +165,8 @@ pub record Ways (p : Printer) (P : Command → List Event → Type 0) : Type 0 w
   pub performsReturn : (b : ℕ)
       → P (vt b) (done (vt b) 0 ∷ inside Control.CarriageReturn 0 ∷ feedAfterReturn (perform (perform p (done (vt b) 0)) (inside Control.CarriageReturn 0)))
   -- VT performed as LF or FF
-  pub performs : (b : ℕ) (x : Control) (told : ℕ) → Legal (perform p (done (vt b) 0)) (inside x told)
-      → P (vt b) (done (vt b) 0 ∷ inside x told ∷ [])
+  pub performs : (b : ℕ) (x : Control) (n : ℕ) → Legal (perform p (done (vt b) 0)) (inside x n)
+      → P (vt b) (done (vt b) 0 ∷ inside x n ∷ [])
 
 -- Searches: the stop found is the one of its number
 
@@ -153,43 +177,42 @@ longer : (before : List ℕ) (n : ℕ) → length (before ++ (n ∷ [])) ≡ suc
 longer before n = length-append before (n ∷ []) ∙ add-one (length before)
 
 module _ (p : Printer) (P : Command → List Event → Type 0) (w : Ways p P) where
-  tried : (c : Command) (reason : ℕ) → reason ≤ 5 → InRange c → (holds (needsAt p c 0) ≡ false → Unfit p (printing c))
+  tried : (c : Command) (reason : ℕ) → reason ≤ 5 → InRange c → (holds (needsAt p c 0) ≡ false → PassedFor p c reason)
       → P c (attempt p c reason ∷ [])
   tried c reason k r u = attempted (λ (e : Event). P c (e ∷ [])) p c reason (w .does c 0 r) (λ e. w .passes c reason k (u e))
 
   -- range before geometry
-  tried-in-range : (fits : Bool) (c : Command) → (fits ≡ true → InRange c) → Unfit p (printing c) → P c (ranged fits c (attempt p c 3) ∷ [])
+  in-range : (fits : Bool) (c : Command) (e : Event) → (fits ≡ true → P c (e ∷ [])) → PassedFor p c 2 → P c (ranged fits c e ∷ [])
   unfolding ranged
-  tried-in-range fits c r u =
-      pick-elim (λ (e : Event). P c (e ∷ [])) fits (λ e. tried c 3 (omega arith) (r e) (λ _. u)) (λ _. w .passes c 2 (omega arith) u)
+  in-range fits c e h u = pick-elim (λ (e : Event). P c (e ∷ [])) fits h (λ _. w .passes c 2 (omega arith) u)
 
   decided-letter : (b : ℕ) → P (Command.Letter b) (letterEvents p b)
   unfolding letterEvents
   decided-letter b =
       pick-elim (P (Command.Letter b)) (holds (needsAt p (Command.Letter b) 0))
-      (λ e. w .does _ 0 (λ k n z. cc) (holds-fact (needsAt p (Command.Letter b) 0) e))
+      (λ e. w .does _ 0 (free (λ k n z. cc) (λ k z. cc)) (holds-fact (needsAt p (Command.Letter b) 0) e))
       (λ e. let u : rightOf (p .settings) < acrossOf (p .place) + advance (p .settings .width) = over _ _ e in
       pick-elim (P (Command.Letter b)) (eqb (acrossOf (p .place)) (leftOf (p .settings)))
-      (λ f. w .passes _ 4 (omega arith) (eqb-true _ _ f, u))
+      (λ f. w .passes _ 4 (omega arith) (λ n i. (eqb-true _ _ f, u, refl)))
       (λ f. w .wraps b (line-needs p, eqb-false _ _ f, u)))
 
-  decided-tab : (b : ℕ) (before l : List ℕ) → before ++ l ≡ columnsOf (p .stops .columns)
+  decided-tab : (b : ℕ) (before l : List ℕ) → before ++ l ≡ heldIn (p .stops .columns)
       → P (ht b) (tabEvent (ht b) (columnFrom (p .settings) (p .place) (suc (length before)) l) ∷ [])
   unfolding columnFrom
-  decided-tab b before [] e = w .passes _ 5 (omega arith) tt
+  decided-tab b before [] e = w .passes _ 5 (omega arith) (λ n i. tt)
   decided-tab b before (n ∷ l) e =
       pick-elim (λ (x : Stop). P (ht b) (tabEvent (ht b) x ∷ [])) (holds (tabNeeds (p .settings) (p .place) n))
-      (λ t. w .does _ _ (λ k m z. cc) (rw (number before n l _ e) (holds-fact (tabNeeds (p .settings) (p .place) n) t)))
+      (λ t. w .does _ _ (free (λ k m z. cc) (λ k z. cc)) (rw (number before n l _ e) (holds-fact (tabNeeds (p .settings) (p .place) n) t)))
       (λ _. rw (longer before n) at (decided-tab b (before ++ (n ∷ [])) l (append-snoc before n l ∙ e)))
 
-  decided-stop : (b : ℕ) (before l : List ℕ) → before ++ l ≡ linesOf (p .stops .lines)
+  decided-stop : (b : ℕ) (before l : List ℕ) → before ++ l ≡ heldIn (p .stops .lines)
       → P (vt b) (verticalEvents p (vt b) (lineFrom (downOf (p .place)) (suc (length before)) l))
   unfolding lineFrom
   decided-stop b before [] e = w .performs b Control.FormFeed 0 tt
   decided-stop b before (n ∷ l) e =
       pick-elim (λ (x : Stop). P (vt b) (verticalEvents p (vt b) x)) (ltb (downOf (p .place)) n)
       (λ _. pick-elim (P (vt b)) (ltb n (edgeOf (p .settings)))
-      (λ t. w .does _ _ (λ k m z. cc) (rw (number before n l _ e) (ltb-true _ _ t, tt)))
+      (λ t. w .does _ _ (free (λ k m z. cc) (λ k z. cc)) (rw (number before n l _ e) (ltb-true _ _ t, tt)))
       (λ _. w .performs b Control.FormFeed 0 tt))
       (λ _. rw (longer before n) at (decided-stop b (before ++ (n ∷ [])) l (append-snoc before n l ∙ e)))
 
@@ -197,42 +220,40 @@ module _ (p : Printer) (P : Command → List Event → Type 0) (w : Ways p P) wh
   unfolding vertical
   decided-vertical b =
       pick-elim (P (vt b)) (p .stops .lineset)
-      (λ _. pick-elim (P (vt b)) (eqb (p .stops .lines .count) 0) (λ _. w .performsReturn b) (λ _. decided-stop b [] (linesOf (p .stops .lines)) refl))
+      (λ _. pick-elim (P (vt b)) (eqb (p .stops .lines .count) 0) (λ _. w .performsReturn b) (λ _. decided-stop b [] (heldIn (p .stops .lines)) refl))
       (λ _. w .performs b Control.LineFeed (pagesOfLine p) (line-needs (perform p (done (vt b) 0))))
 
   decided-control : (c : Control) (b : ℕ) → P (Command.Control c b) (controlEvents p c b)
   decided-control Control.CarriageReturn b = w .returns b
-  decided-control Control.LineFeed b = w .does _ _ (λ k n z. cc) (line-needs p)
-  decided-control Control.FormFeed b = w .does _ 0 (λ k n z. cc) tt
-  decided-control Control.HorizontalTab b = decided-tab b [] (columnsOf (p .stops .columns)) refl
+  decided-control Control.LineFeed b = w .does _ _ (free (λ k n z. cc) (λ k z. cc)) (line-needs p)
+  decided-control Control.FormFeed b = w .does _ 0 (free (λ k n z. cc) (λ k z. cc)) tt
+  decided-control Control.HorizontalTab b = decided-tab b [] (heldIn (p .stops .columns)) refl
   decided-control Control.VerticalTab b = decided-vertical b
-  decided-control Control.Backspace b = tried _ 3 (omega arith) (λ k n z. cc) (λ _. tt)
-  decided-control Control.ShiftOut b = w .does _ 0 (λ k n z. cc) tt
-  decided-control Control.ShiftIn b = tried _ 2 (omega arith) (λ k n z. cc) (λ _. tt)
-  decided-control Control.Dc2 b = w .does _ 0 (λ k n z. cc) tt
-  decided-control Control.Dc4 b = w .does _ 0 (λ k n z. cc) tt
+  decided-control Control.Backspace b = tried _ 3 (omega arith) (free (λ k n z. cc) (λ k z. cc)) (λ _ n i. tt)
+  decided-control Control.ShiftOut b = w .does _ 0 (free (λ k n z. cc) (λ k z. cc)) tt
+  decided-control Control.ShiftIn b = tried _ 2 (omega arith) (free (λ k n z. cc) (λ k z. cc)) (λ _ n i. tt)
+  decided-control Control.Dc2 b = w .does _ 0 (free (λ k n z. cc) (λ k z. cc)) tt
+  decided-control Control.Dc4 b = w .does _ 0 (free (λ k n z. cc) (λ k z. cc)) tt
 
   pub decided : (c : Command) → P c (decide p c)
   decided (Command.Letter b) = decided-letter b
   decided (Command.Control c b) = decided-control c b
-  decided (Command.Escape b) = w .does _ 0 (λ k n z. cc) tt
-  decided (Command.Unlisted b) = w .passes _ 1 (omega arith) tt
-  decided (Command.UnlistedEscape b) = w .passes _ 1 (omega arith) tt
-  decided Command.Reset = w .does _ 0 (λ k n z. cc) tt
-  decided (Command.Mode c) = tried _ 2 (omega arith) (λ k n z. cc) (λ _. tt)
-  decided (Command.Parameter c n) = tried-in-range (inRange c n) _ (λ e k m z. cc) tt
-  decided (Command.Feed n) = w .does _ _ (λ k m z. cc) (omega arith)
-  decided (Command.LeftMargin n) = tried _ 3 (omega arith) (λ k m z. cc) (λ _. tt)
-  decided (Command.RightMargin n) = tried _ 3 (omega arith) (λ k m z. cc) (λ _. tt)
-  decided (Command.PageLines n) = tried-in-range (within 1 127 n) _ (λ e k m z. cc) tt
-  decided (Command.PageInches n) = tried-in-range (within 1 22 n) _ (λ e k m z. cc) tt
-  decided (Command.Absolute a b) = tried _ 3 (omega arith) (λ k n z. cc) (λ _. tt)
-  decided (Command.Relative a b) = tried _ 3 (omega arith) (λ k n z. cc) (λ _. tt)
-  decided (Command.OpenImage d a b) = w .does _ 0 (λ k n z. cc) tt
-  decided (Command.ImageByte d b) = tried _ 4 (omega arith) (λ k n z. cc) (λ e. over _ _ e)
-  decided (Command.OpenList k) = w .does _ 0 (λ k n z. cc) tt
-  decided (Command.ListByte k b) = tried _ 3 (omega arith) (λ k n z. cc) (λ _. tt)
-  decided (Command.EndList k b) = w .does _ 0 (λ k n z. cc) tt
+  decided (Command.Refused r) = w .passes _ (reasonOf r) (known r) (λ n i. tt)
+  decided (Command.Silent k) = w .does _ 0 (free (λ k n z. cc) (λ k z. cc)) tt
+  decided Command.Reset = w .does _ 0 (free (λ k n z. cc) (λ k z. cc)) tt
+  decided (Command.Mode c) = w .does _ 0 (free (λ k n z. cc) (λ k z. cc)) tt
+  decided (Command.Parameter c n) =
+      in-range (parameterRow c .takes n) _ _ (λ e. w .does _ 0 (record { parameter = λ k m z. takes-same c k n m z e; look = λ k z. cc }) tt) (λ n i. tt)
+  decided (Command.Look k) =
+      in-range (lookTakes k) _ _ (λ e. w .does _ 0 (record { parameter = λ c n z. cc; look = λ j z. look-same k j z e }) tt) (λ n i. tt)
+  decided (Command.Skip n) = in-range (within 1 127 n) _ _ (λ e. tried _ 3 (omega arith) (free (λ k m z. cc) (λ k z. cc)) (λ _ n i. tt)) (λ n i. tt)
+  decided (Command.Feed n) = w .does _ _ (free (λ k m z. cc) (λ k z. cc)) (omega arith)
+  decided (Command.Margin side n) = tried _ 3 (omega arith) (free (λ k m z. cc) (λ k z. cc)) (λ _ n i. tt)
+  decided (Command.Page g) = in-range (pageRange g) _ _ (λ e. tried _ 3 (omega arith) (free (λ k m z. cc) (λ k z. cc)) (λ _ n i. tt)) (λ n i. tt)
+  decided (Command.Move m a b) = tried _ 3 (omega arith) (free (λ k n z. cc) (λ k z. cc)) (λ _ n i. tt)
+  decided (Command.OpenImage d a b) = w .does _ 0 (free (λ k n z. cc) (λ k z. cc)) tt
+  decided (Command.ImageByte d b) = tried _ 4 (omega arith) (free (λ k n z. cc) (λ k z. cc)) (λ e n i. (rw (i d b refl) (over _ _ e), refl))
+  decided (Command.List k part) = tried _ 3 (omega arith) (free (λ k n z. cc) (λ k z. cc)) (λ _ n i. tt)
 
 -- What is decided is legal
 
@@ -245,19 +266,21 @@ legal-feed : (p : Printer) → LegalAll p (feedAfterReturn p)
 unfolding feedAfterReturn
 legal-feed p = pick-elim (LegalAll p) (p .settings .setup .autofeed) (λ _. (line-needs p, tt)) (λ _. tt)
 
-legal-letter : (p : Printer) (b : ℕ) → Bytes (b ∷ []) → acrossOf (p .place) ≡ leftOf (p .settings) → Legal p (attempt p (Command.Letter b) 4)
-legal-letter p b h l =
-    attempted (Legal p) p _ 4 (λ n. record { bytes = h; range = λ k m z. cc; needs = n; given = tt })
-    (λ e. record { bytes = h; known = omega arith; unfit = (l, over _ _ e) })
+legal-letter : (p : Printer) (b : ℕ) → Bytes (b ∷ []) → Classified (p .settings .upperprints) (Command.Letter b) → acrossOf (p .place) ≡ leftOf (p .settings)
+    → Legal p (attempt p (Command.Letter b) 4)
+legal-letter p b h k l =
+    attempted (Legal p) p _ 4 (λ n. record { bytes = h; range = free (λ k m z. cc) (λ k z. cc); needs = n; given = given-none _ _ _ (λ k x z. cc); classified = k })
+    (λ e. record { bytes = h; known = omega arith; overflows = λ n i. (l, over _ _ e, refl); classified = k })
 
-pub legal-decide : (p : Printer) (c : Command) → Bytes (spelt c) → Given (p .settings) (p .stops) c → LegalAll p (decide p c)
+pub legal-decide : (p : Printer) (c : Command) → Bytes (spelt c) → Given (p .settings) (p .stops) c → Classified (p .settings .upperprints) c
+    → LegalAll p (decide p c)
 legal-decide p =
-    decided p (λ (c : Command) (l : List Event). Bytes (spelt c) → Given (p .settings) (p .stops) c → LegalAll p l)
+    decided p (λ (c : Command) (l : List Event). Bytes (spelt c) → Given (p .settings) (p .stops) c → Classified (p .settings .upperprints) c → LegalAll p l)
     (record {
-      does = λ c told r n h g. (record { bytes = h; range = r; needs = n; given = g }, tt);
-      passes = λ c reason k u h g. (record { bytes = h; known = k; unfit = u }, tt);
-      wraps = λ b a h g. (a, (legal-letter _ b h (fed-left (p .settings) (p .place) (pagesOfLine p)), tt));
-      returns = λ b h g. (record { bytes = h; range = λ k n z. cc; needs = tt; given = tt }, legal-feed _);
-      performsReturn = λ b h g. (record { bytes = h; range = λ k n z. cc; needs = tt; given = tt }, (tt, legal-feed _));
-      performs = λ b x told k h g. (record { bytes = h; range = λ k n z. cc; needs = tt; given = tt }, (k, tt));
+      does = λ c n r k h g v. (record { bytes = h; range = r; needs = k; given = g; classified = v }, tt);
+      passes = λ c reason k u h g v. (record { bytes = h; known = k; overflows = u; classified = v }, tt);
+      wraps = λ b a h g v. (a, (legal-letter _ b h v (fed-left (p .settings) (p .place) (pagesOfLine p)), tt));
+      returns = λ b h g v. (record { bytes = h; range = free (λ k n z. cc) (λ k z. cc); needs = tt; given = given-none _ _ _ (λ k x z. cc); classified = v }, legal-feed _);
+      performsReturn = λ b h g v. (record { bytes = h; range = free (λ k n z. cc) (λ k z. cc); needs = tt; given = given-none _ _ _ (λ k x z. cc); classified = v }, (tt, legal-feed _));
+      performs = λ b x n k h g v. (record { bytes = h; range = free (λ k n z. cc) (λ k z. cc); needs = tt; given = given-none _ _ _ (λ k x z. cc); classified = v }, (k, tt));
     })

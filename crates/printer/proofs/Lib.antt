@@ -1,5 +1,7 @@
 pub mod CodeLaws
 pub mod Choices
+pub mod Listed
+pub mod Frames
 pub mod Accepting
 pub mod StopLists
 pub mod Legal

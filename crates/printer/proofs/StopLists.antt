@@ -8,7 +8,10 @@ use lib.ListN.{length, take}
 use lib.ListN as ListN
 use lib.Seq.{take-suc-set}
 use Rattle.printer.specs.Tools.{Holds}
+use Rattle.printer.specs.Settings.{heldIn}
+use Rattle.printer.specs.Performing.{oneMore}
 use Rattle.printer.specs.Bounds.{ascending, lastOf, listBounds}
+use Rattle.printer.specs.Types.{TabStops}
 
 ascending-snoc : (limit n : ℕ) (l : List ℕ) (m : ℕ) → Holds (ascending limit n l) → lastOf n l < m → m ≤ limit
     → Holds (ascending limit n (l ++ (m ∷ [])))
@@ -25,12 +28,10 @@ last-snoc n (x ∷ l) m = last-snoc x l m
 pub one-more : (count : ℕ) (l : List ℕ) (m : ℕ) → count < length l → take (count + 1) (ListN.set l count m) ≡ take count l ++ (m ∷ [])
 one-more count l m h = rw add-one (take-suc-set l count m h)
 
-pub list-more : (most limit count : ℕ) (l : List ℕ) (m : ℕ) → length l ≡ most → count < most
-    → lastOf 0 (take count l) < m → m ≤ limit → Holds (listBounds most limit count l)
-    → Holds (listBounds most limit (count + 1) (ListN.set l count m))
-list-more most limit count l m e h k u f =
-    rw (one-more count l m (omega arith)) (omega arith, ascending-snoc limit 0 (take count l) m (f .1) k u)
+pub list-more : (most limit : ℕ) (l : TabStops) (m : ℕ) → l .count < length (l .stops) → l .count < most
+    → lastOf 0 (heldIn l) < m → m ≤ limit → Holds (listBounds most limit l) → Holds (listBounds most limit (oneMore l m))
+list-more most limit l m e h k u f =
+    rw (one-more (l .count) (l .stops) m e) (omega arith, ascending-snoc limit 0 (heldIn l) m (f .1) k u)
 
-pub last-more : (most count : ℕ) (l : List ℕ) (m : ℕ) → length l ≡ most → count < most
-    → lastOf 0 (take (count + 1) (ListN.set l count m)) ≡ m
-last-more most count l m e h = rw (one-more count l m (omega arith)) (last-snoc 0 (take count l) m)
+pub last-more : (l : TabStops) (m : ℕ) → l .count < length (l .stops) → lastOf 0 (heldIn (oneMore l m)) ≡ m
+last-more l m e = rw (one-more (l .count) (l .stops) m e) (last-snoc 0 (heldIn l) m)

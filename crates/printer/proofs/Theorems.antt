@@ -9,28 +9,29 @@ use lib.ListN.{length}
 use Rattle.printer.specs.Tools.{Each, Bytes}
 use Rattle.printer.specs.Units.{rounded}
 use Rattle.printer.specs.PowerOn.{powerOn}
-use Rattle.printer.specs.Records.{recordSize, roomForByte, encoded, encodedAll, decoded, decodedAll, FitsBytes}
-use Rattle.printer.specs.Bounds.{accepted, Accepted, Typed}
+use Rattle.printer.specs.Records.{recordSize, roomForByte, encoded, encodedAll}
+use Rattle.printer.specs.Decoding.{decoded, decodedAll, FitsBytes}
+use Rattle.printer.specs.Bounds.{accepted}
+use Rattle.printer.specs.Accepted.{Accepted, Typed}
 use Rattle.printer.specs.Steps.{stepRecords, stateAfter, recordsOver, eventsOver}
-use Rattle.printer.specs.Spelling.{pending, speltAll, GenuineEvent}
-use Rattle.printer.specs.Calls.{StartPromise, StartCall, ReadCall, ReadingPromise, row, numberOf, ThatState, ByTable}
+use Rattle.printer.specs.Spelling.{pending, speltAll, ClassifiedOver, EveryListed}
+use Rattle.printer.specs.Calls.{startOf, readingOf, outputOf, StartCall, ReadCall, row, numberOf, ThatState, ByTable}
+use Rattle.printer.specs.Promises.{callBy, ReadingPromise}
 use Rattle.printer.specs.Cutting.{Readings, joinedInput, lastState, joinedOutput, bytesRead, ReadToEnd, Resumed, Leaves}
 use Rattle.printer.specs.Reckoning.{Motion, sets, Axis, movedAll, Moves, forthOf, backOf, Reckoning, Occurrence, reckonAll, acrossMotion, downMotion, motions}
 use Rattle.printer.specs.Demand3.{Call, started, Chain, Demand3}
 use Rattle.printer.specs.Cases.{CheckedByHand}
-use Rattle.printer.specs.declared.answers.Answer.{Answer}
-use Rattle.printer.specs.declared.records.Record.{Record}
-use Rattle.printer.specs.declared.settings.Setup.{Setup}
-use Rattle.printer.specs.declared.state.Printer.{Printer}
+use Rattle.printer.specs.Types.{Answer, Reading, Started, Record, Setup, StartSettings, Printer}
 use Rattle.printer.proofs.Accepting.{fact-accepted, accepted-fact, power-on-accepted}
 use Rattle.printer.proofs.KeepingSteps.{steps-ours}
 use Rattle.printer.proofs.Few.{two-records}
-use Rattle.printer.proofs.Spelling.{steps-spell, steps-genuine}
+use Rattle.printer.proofs.Listed.{every-listed}
+use Rattle.printer.proofs.Spelling.{steps-spell, steps-classified}
 use Rattle.printer.proofs.Bytes.{decoded-encoded, decodedAll-encoded}
 use Rattle.printer.proofs.Writing.{steps-fit}
-use Rattle.printer.proofs.Cuts.{calls-state, calls-output, read-to-end, resumed-reads, enough-reads}
+use Rattle.printer.proofs.Cuts.{gave, calls-state, calls-output, read-to-end, resumed-reads, enough-reads}
 use Rattle.printer.proofs.LastSet.{last-set, across-moved, down-moved}
-use Rattle.printer.proofs.Answering.{read-by-table, refused-row, start-by-table}
+use Rattle.printer.proofs.Answering.{refused-row, read-promise, start-promise}
 use Rattle.printer.proofs.CallLists.{demand-3}
 use Rattle.printer.proofs.ByHand.{checked-by-hand}
 
@@ -83,8 +84,12 @@ pub spelling : (p : Printer) (input : List ℕ)
 spelling p input = steps-spell p input
 
 -- and a single byte is taken for what it is
-pub genuine : (p : Printer) (input : List ℕ) → Each GenuineEvent (eventsOver p input)
-genuine p input = steps-genuine p input
+pub classified : (p : Printer) (input : List ℕ) → ClassifiedOver p input
+classified p input = steps-classified p input
+
+-- and every control and escape is listed
+pub listed : EveryListed
+listed = every-listed
 
 -- 4. Demand 2, cutting: over calls that kept their promises, each with the state that the one before returned or left
 
@@ -114,20 +119,22 @@ pub reads-to-end : (c : ReadCall) → ReadingPromise c → accepted (c .state) �
     → c .back .answer ≡ Answer.InputUsed
 reads-to-end c v e h k = enough-reads c v e h k
 
--- 5. The answers, of calls that kept their promises
+-- 5. The answers: what the rules give is by the table, so that a promise can say both
 
--- a reading call's answer is by the table: it comes exactly when its row says, with what its row says
-pub answers : (c : ReadCall) → ReadingPromise c → ByTable (λ (a : Answer). row a .reading c) (c .back .answer)
-answers c h = read-by-table c h
+-- a reading call's answer comes exactly when its row says, with what its row says
+pub answers : (p : Printer) (input : List ℕ) (allowance : ℕ) (out : List ℕ) (back : Reading) (after : List ℕ)
+    → back ≡ readingOf p input allowance (length out) → after ≡ outputOf p input allowance out
+    → ByTable (λ (a : Answer). row a .reading (callBy p input allowance out back after)) (back .report .answer)
+answers p input allowance out back after h o = read-promise p input allowance out back after h o .byTable
 
 -- so a state outside the bounds is refused: 4, with that state, counts 0, output untouched
 pub refuses : (c : ReadCall) → ReadingPromise c → accepted (c .state) ≡ false → (numberOf (c .back .answer) ≡ 4) × ThatState c
-refuses c h e = let r = refused-row c h e in (ap numberOf (r .0), r .1)
+refuses c h e = let r = refused-row c (gave c h) e in (ap numberOf (r .0), r .1)
 
 -- and a start's answer is by the table: 0 with the power-on state, or 3
-pub starts : (c : StartCall) → StartPromise (c .resolution) (c .autofeed) (c .back)
-    → ByTable (λ (a : Answer). row a .starting c) (c .back .answer)
-starts c h = start-by-table c h
+pub starts : (settings : StartSettings) (back : Started) → back ≡ startOf settings
+    → ByTable (λ (a : Answer). row a .starting (record { settings = settings; back = back })) (back .answer)
+starts settings back h = start-promise settings back h .byTable
 
 -- 6. Demand 3
 

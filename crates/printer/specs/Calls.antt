@@ -1,40 +1,44 @@
--- Document 01, 'Calls and their numbers': the start, the reading calls, and what each of them promises.
-use Prim.Native.Nat.{ℕ, zero, suc, _+_, _*_, _-_, _<_}
+-- Document 01, 'Calls and their numbers': the start, the reading calls, and the table of their answers.
+use Prim.Native.Nat.{ℕ, zero, suc, _+_, _*_, _-_, _≤_, _<_}
 use mathlib.Core.Path.{_≡_}
 use mathlib.Core.Bool.{Bool, true, false}
 use mathlib.Core.List.{List, [], _∷_, _++_}
 use mathlib.Core.Logic.{_⊎_}
 use lib.Dec.{ltb, eqb}
 use lib.ListN.{length, take, drop}
-use Rattle.printer.specs.Tools.{pick}
+use Rattle.printer.specs.Tools.{pick, either}
 use Rattle.printer.specs.PowerOn.{powerOn}
 use Rattle.printer.specs.Records.{recordSize, roomForByte, encodedAll}
 use Rattle.printer.specs.Steps.{stepOf, stepRecords, stateAfter, recordsOver}
 use Rattle.printer.specs.Bounds.{accepted}
-use Rattle.printer.specs.declared.answers.Answer.{Answer}
-use Rattle.printer.specs.declared.answers.Report.{Report}
-use Rattle.printer.specs.declared.answers.Reading.{Reading}
-use Rattle.printer.specs.declared.answers.Started.{Started}
-use Rattle.printer.specs.declared.commands.Waiting.{Waiting}
-use Rattle.printer.specs.declared.records.Record.{Record}
-use Rattle.printer.specs.declared.settings.Setup.{Setup}
-use Rattle.printer.specs.declared.state.Printer.{Printer}
-use Rattle.printer.specs.declared.units.Resolution.{Resolution}
+use Rattle.printer.specs.Types.{Answer, Report, Reading, Started, Waiting, Record, Setup, StartSettings, Printer, Resolution}
 
 -- The start
 
 abbrev pub setup : Resolution → Bool → Setup
 setup r autofeed = record { resolution = r; autofeed = autofeed }
 
-abbrev pub started : Answer → Setup → Started
-started a t = record { answer = a; printer = powerOn t }
+abbrev pub startedWith : Answer → Setup → Started
+startedWith a t = record { answer = a; printer = powerOn t }
 
--- 300 or 203, or refused with the power-on state for 300, automatic line feed off
-unfoldable pub startOf : (resolution : ℕ) (autofeed : Bool) → Started
-startOf resolution autofeed =
-    pick (eqb resolution 300) (started Answer.InputUsed (setup Resolution.Dots300 autofeed))
-    (pick (eqb resolution 203) (started Answer.InputUsed (setup Resolution.Dots203 autofeed))
-    (started Answer.SettingsRefused (setup Resolution.Dots300 false)))
+-- resolution 300 or 203
+abbrev pub usable : StartSettings → Bool
+usable r = either (eqb (r .resolution) 300) (eqb (r .resolution) 203)
+
+abbrev pub setupOf : StartSettings → Setup
+setupOf r = setup (pick (eqb (r .resolution) 203) Resolution.Dots203 Resolution.Dots300) (r .autofeed)
+
+-- so many dots, and all else plain
+abbrev pub startAt : (dots : ℕ) → StartSettings
+startAt dots = record { resolution = dots; autofeed = false }
+
+-- 300 dots, automatic line feed off: what a refused start gives
+abbrev pub plainStart : StartSettings
+plainStart = startAt 300
+
+unfoldable pub startOf : StartSettings → Started
+startOf r =
+    pick (usable r) (startedWith Answer.InputUsed (setupOf r)) (startedWith Answer.SettingsRefused (setupOf plainStart))
 
 -- Reading
 
@@ -53,12 +57,16 @@ abbrev pub afterByte : List Record → Run → Run
 afterByte l v =
     record { answer = v .answer; printer = v .printer; read = suc (v .read); records = l ++ v .records }
 
--- before each byte: input used up; allowance used; under 28 output bytes left
+-- under 28 output bytes left
+abbrev pub isFull : (room : ℕ) → Bool
+isFull room = ltb room roomForByte
+
+-- before each byte: input used up; allowance used; output full
 unfoldable pub runOf : Printer → (input : List ℕ) → (allowance room : ℕ) → Run
 runOf p [] allowance room = stopped Answer.InputUsed p
 runOf p (b ∷ l) zero room = stopped Answer.AllowanceUsed p
 runOf p (b ∷ l) (suc allowance) room =
-    pick (ltb room roomForByte)
+    pick (isFull room)
     (stopped Answer.OutputFull p)
     (afterByte (stepRecords p b)
     (runOf (stepOf p b) l allowance (room - recordSize * length (stepRecords p b))))
@@ -85,38 +93,15 @@ outputOf p input allowance out =
     encodedAll (callOf p input allowance (length out) .records)
     ++ drop (recordSize * length (callOf p input allowance (length out) .records)) out
 
--- The promises
-
--- what a start promises of its settings and what it gives back
-pub record StartPromise (resolution : ℕ) (autofeed : Bool) (back : Started) : Type 0 where
-  pub gives : back ≡ startOf resolution autofeed
-
--- what a reading call promises of the state, the input, the allowance, the output before, what it gives back, and the output after
-pub record ReadPromise
-    (p : Printer) (input : List ℕ) (allowance : ℕ) (out : List ℕ) (back : Reading) (after : List ℕ) : Type 0 where
-  pub gives : back ≡ readingOf p input allowance (length out)
-  pub output : after ≡ outputOf p input allowance out
-
--- the same of the call to which the state is lent, of what it reports and the state that it leaves
-abbrev pub LentPromise : Printer → (input : List ℕ) → (allowance : ℕ) → (out : List ℕ) → Report → (left : Printer) → (after : List ℕ) → Type 0
-LentPromise p input allowance out back left after =
-    ReadPromise p input allowance out (record { report = back; printer = left }) after
-
 -- Calls with what came back
 
 -- what a start was given and gave back
 pub record StartCall : Type 0 where
-  pub resolution : ℕ
-  pub autofeed : Bool
+  pub settings : StartSettings
   pub back : Started
-
--- the state goes by value, or is lent
-pub data Manner : Type 0 where
-  byValue lent : Manner
 
 -- a reading call: the state it got, input, allowance, the output before and after, what came back, and the state returned or left
 pub record ReadCall : Type 0 where
-  pub manner : Manner
   pub state : Printer
   pub input : List ℕ
   pub allowance : ℕ
@@ -124,10 +109,6 @@ pub record ReadCall : Type 0 where
   pub back : Report
   pub left : Printer
   pub after : List ℕ
-
--- it met its promise: `ReadPromise` of the call by value, `LentPromise` of the other, which are one and the same
-abbrev pub ReadingPromise : ReadCall → Type 0
-ReadingPromise c = LentPromise (c .state) (c .input) (c .allowance) (c .out) (c .back) (c .left) (c .after)
 
 -- the bytes that it read, and those that it wrote
 abbrev pub bytesOf : ReadCall → List ℕ
@@ -168,6 +149,9 @@ AllowanceLeft c = c .back .read < c .allowance
 pub record NewState (c : ReadCall) : Type 0 where
   pub state : c .left ≡ stateAfter (c .state) (bytesOf c)
   pub written : c .back .written ≡ recordSize * length (recordsOver (c .state) (bytesOf c))
+  -- before each byte read, allowance and 28 output bytes were left
+  pub allowed : c .back .read ≤ c .allowance
+  pub room : (n : ℕ) → n < c .back .read → recordSize * length (recordsOver (c .state) (take n (c .input))) + roomForByte ≤ length (c .out)
   pub output : c .after ≡ encodedAll (recordsOver (c .state) (bytesOf c)) ++ drop (c .back .written) (c .out)
 
 -- that state, counts 0, output untouched
@@ -179,8 +163,8 @@ pub record ThatState (c : ReadCall) : Type 0 where
 
 -- an accepted start: the power-on state, waiting for nothing
 pub record PowerOnState (c : StartCall) : Type 0 where
-  pub at300 : c .resolution ≡ 300 → c .back .printer ≡ powerOn (setup Resolution.Dots300 (c .autofeed))
-  pub at203 : c .resolution ≡ 203 → c .back .printer ≡ powerOn (setup Resolution.Dots203 (c .autofeed))
+  pub at300 : c .settings .resolution ≡ 300 → c .back .printer ≡ powerOn (setup Resolution.Dots300 (c .settings .autofeed))
+  pub at203 : c .settings .resolution ≡ 203 → c .back .printer ≡ powerOn (setup Resolution.Dots203 (c .settings .autofeed))
   pub waiting : c .back .printer .waiting ≡ Waiting.Nothing
 
 abbrev pub row : Answer → Row
@@ -188,7 +172,7 @@ abbrev pub row : Answer → Row
 row Answer.InputUsed =
     record {
       number = 0;
-      starting = λ c. cell ((c .resolution ≡ 300) ⊎ (c .resolution ≡ 203)) (PowerOnState c);
+      starting = λ c. cell ((c .settings .resolution ≡ 300) ⊎ (c .settings .resolution ≡ 203)) (PowerOnState c);
       reading = λ c. cell (InBounds c × (c .back .read ≡ length (c .input))) (NewState c);
     }
 -- allowance used, input left
@@ -204,14 +188,14 @@ row Answer.OutputFull =
       number = 2;
       starting = λ c. never;
       reading = λ c.
-          cell (InBounds c × (length (c .out) < c .back .written + 28) × InputLeft c × AllowanceLeft c) (NewState c);
+          cell (InBounds c × (length (c .out) < c .back .written + roomForByte) × InputLeft c × AllowanceLeft c) (NewState c);
     }
 -- starting: resolution neither 300 nor 203; power-on state for 300, automatic line feed off
 row Answer.SettingsRefused =
     record {
       number = 3;
       starting = λ c.
-          cell ((c .resolution ≡ 300 → ⊥) × (c .resolution ≡ 203 → ⊥))
+          cell ((c .settings .resolution ≡ 300 → ⊥) × (c .settings .resolution ≡ 203 → ⊥))
           (c .back .printer ≡ powerOn (setup Resolution.Dots300 false));
       reading = λ c. never;
     }

@@ -1,14 +1,12 @@
 -- Document 01, 'Checked by hand': the table, and what each case comes to from power-on.
 use Prim.Native.Nat.{ℕ, zero, suc, _+_, _*_}
 use mathlib.Core.Path.{_≡_}
-use mathlib.Core.Bool.{false}
 use mathlib.Core.List.{List, [], _∷_, _++_, map}
 use lib.ListN.{length, take, drop, replicate}
-use Rattle.printer.specs.Records.{roomForByte, decodedAll}
-use Rattle.printer.specs.Calls.{startOf, readingOf, outputOf}
-use Rattle.printer.specs.declared.records.Mark.{Mark}
-use Rattle.printer.specs.declared.records.Record.{Record}
-use Rattle.printer.specs.declared.state.Printer.{Printer}
+use Rattle.printer.specs.Records.{roomForByte}
+use Rattle.printer.specs.Decoding.{decodedAll}
+use Rattle.printer.specs.Calls.{startAt, startOf, readingOf, outputOf}
+use Rattle.printer.specs.Types.{Mark, Record, Printer}
 
 -- the bytes that reading an input from power-on writes, with allowance and room enough
 abbrev pub bytesFrom : Printer → List ℕ → List ℕ
@@ -17,7 +15,7 @@ bytesFrom p input =
     (outputOf p input (length input) (replicate (roomForByte * length input) 0))
 
 abbrev pub bytesAt : (resolution : ℕ) → List ℕ → List ℕ
-bytesAt resolution input = bytesFrom (startOf resolution false .printer) input
+bytesAt resolution input = bytesFrom (startOf (startAt resolution) .printer) input
 
 -- the fields of a record that the table speaks of
 pub record Line : Type 0 where
@@ -114,8 +112,15 @@ table =
     -- 10: ESC ! 25h; ESC p 1, SI
     at300 (0x1B ∷ 0x21 ∷ 0x25 ∷ 0x41 ∷ []) (styled 0x41 0x840 360 ∷ []) ∷
     at300 (0x1B ∷ 0x70 ∷ 1 ∷ 0x0F ∷ 0x41 ∷ []) (styled 0x41 0xC00 180 ∷ []) ∷
-    -- 'Errors that read well': at 203 the 80th 10 cpi letter is at 1,604
+    -- 'Errors that read well': HT to 4 is 1,440 units, dot 120, not 1,080: ESC D 4 0, HT A
+    at300 (0x1B ∷ 0x44 ∷ 4 ∷ 0 ∷ 0x09 ∷ 0x41 ∷ []) (tx 120 0 0x41 360 ∷ []) ∷
+    -- at 203 the 80th 10 cpi letter is at 1,604
     record { resolution = 203; input = replicate 80 0x41; skipped = 79; lines = tx 1604 0 0x41 360 ∷ [] } ∷
+    -- stops are not frozen at the width of their setting: ESC D 4 0, ESC M, HT A
+    at300 (0x1B ∷ 0x44 ∷ 4 ∷ 0 ∷ 0x1B ∷ 0x4D ∷ 0x09 ∷ 0x41 ∷ []) (tx 100 0 0x41 300 ∷ []) ∷
+    -- 1Bh 40h inside a stop list, and inside an image, is no ESC @
+    at300 (0x1B ∷ 0x44 ∷ 0x1E ∷ 0x1B ∷ 0x40 ∷ []) (tx 0 0 0x40 360 ∷ []) ∷
+    at300 (0x1B ∷ 0x4B ∷ 2 ∷ 0 ∷ 0x1B ∷ 0x40 ∷ 0x41 ∷ []) (im 0 0x1B 60 ∷ im 5 0x40 60 ∷ tx 10 0 0x41 360 ∷ []) ∷
     []
 
 pub record CheckedByHand : Type 0 where

@@ -1,15 +1,9 @@
--- The codes of the commands: a control's byte, an escape's second byte.
+-- The bytes that commands are received by: with those of Escapes, each written once. What is listed, and the byte that a NO bears.
 use Prim.Native.Nat.{ℕ}
-use mathlib.Core.Bool.{true, false}
-use Rattle.printer.specs.declared.commands.Command.{Command}
-use Rattle.printer.specs.declared.commands.Control.{Control}
-use Rattle.printer.specs.declared.commands.Density.{Density}
-use Rattle.printer.specs.declared.commands.Mode.{Mode}
-use Rattle.printer.specs.declared.commands.One.{One}
-use Rattle.printer.specs.declared.commands.Parameter.{Parameter}
-use Rattle.printer.specs.declared.commands.Tabs.{Tabs}
-use Rattle.printer.specs.declared.commands.Two.{Two}
-use Rattle.printer.specs.declared.settings.Pitch.{Pitch}
+use mathlib.Core.List.{List, [], _∷_, _++_, map}
+use lib.ListN.{getD}
+use Rattle.printer.specs.Escapes.{modeRow, parameterRow, switchRow, choiceRow, modes, looks, parameters, choices}
+use Rattle.printer.specs.Types.{Begun, Command, Control, Density, First, ListPart, Look, Move, One, Page, Refused, Second, Side, Silent, Tabs, Two}
 
 abbrev pub controlCode : Control → ℕ
 controlCode Control.Backspace = 0x08
@@ -23,87 +17,133 @@ controlCode Control.ShiftIn = 0x0F
 controlCode Control.Dc2 = 0x12
 controlCode Control.Dc4 = 0x14
 
-abbrev pub pitchCode : Pitch → ℕ
-pitchCode Pitch.Cpi10 = 0x50
-pitchCode Pitch.Cpi12 = 0x4D
-pitchCode Pitch.Cpi15 = 0x67
-
-abbrev pub modeCode : Mode → ℕ
-modeCode Mode.EighthInchLine = 0x30
-modeCode Mode.SixthInchLine = 0x32
-modeCode Mode.NoSkip = 0x4F
-modeCode Mode.WideOnce = 0x0E
-modeCode Mode.Reduced = 0x0F
-modeCode (Mode.Pitch p) = pitchCode p
-modeCode (Mode.Bold true) = 0x45
-modeCode (Mode.Bold false) = 0x46
-modeCode (Mode.DoubleStrike true) = 0x47
-modeCode (Mode.DoubleStrike false) = 0x48
-modeCode (Mode.Italic true) = 0x34
-modeCode (Mode.Italic false) = 0x35
-modeCode Mode.NoScript = 0x54
-modeCode (Mode.UpperPrints true) = 0x36
-modeCode (Mode.UpperPrints false) = 0x37
-
-abbrev pub parameterCode : Parameter → ℕ
-parameterCode Parameter.Line180ths = 0x33
-parameterCode Parameter.Line60ths = 0x41
-parameterCode Parameter.Line360ths = 0x2B
-parameterCode Parameter.Skip = 0x4E
-parameterCode Parameter.Spacing = 0x20
-parameterCode Parameter.Proportional = 0x70
-parameterCode Parameter.Script = 0x53
-parameterCode Parameter.Quality = 0x78
-parameterCode Parameter.DoubleWidth = 0x57
-parameterCode Parameter.DoubleHeight = 0x77
-parameterCode Parameter.Underline = 0x2D
-parameterCode Parameter.Download = 0x25
-parameterCode Parameter.CodeTable = 0x74
-parameterCode Parameter.Country = 0x52
-parameterCode Parameter.Outline = 0x71
-parameterCode Parameter.Font = 0x6B
-parameterCode Parameter.Master = 0x21
-
 abbrev pub oneCode : One → ℕ
-oneCode (One.Parameter c) = parameterCode c
+oneCode (One.Parameter c) = parameterRow c .code
+oneCode (One.Choice c) = choiceRow c .code
+oneCode One.Skip = 0x4E
 oneCode One.Feed = 0x4A
-oneCode One.LeftMargin = 0x6C
-oneCode One.RightMargin = 0x51
-
-abbrev pub imageCode : Density → ℕ
-imageCode Density.Single = 0x4B
-imageCode Density.Double = 0x4C
-imageCode Density.DoubleSpeed = 0x59
-imageCode Density.Quadruple = 0x5A
+oneCode (One.Margin Side.Left) = 0x6C
+oneCode (One.Margin Side.Right) = 0x51
 
 abbrev pub twoCode : Two → ℕ
-twoCode Two.Absolute = 0x24
-twoCode Two.Relative = 0x5C
-twoCode (Two.Image d) = imageCode d
+twoCode (Two.Move Move.Absolute) = 0x24
+twoCode (Two.Move Move.Relative) = 0x5C
+twoCode (Two.Image Density.Single) = 0x4B
+twoCode (Two.Image Density.Double) = 0x4C
+twoCode (Two.Image Density.DoubleSpeed) = 0x59
+twoCode (Two.Image Density.Quadruple) = 0x5A
 
-abbrev pub listCode : Tabs → ℕ
-listCode Tabs.Horizontal = 0x44
-listCode Tabs.Vertical = 0x42
+abbrev pageCode : ℕ
+pageCode = 0x43
 
--- the byte that a command is passed over by: the letter, image or list byte, else the control byte or the escape's second byte
-abbrev pub codeOf : Command → ℕ
-codeOf (Command.Letter b) = b
-codeOf (Command.Control c b) = b
-codeOf (Command.Escape b) = b
-codeOf (Command.Unlisted b) = b
-codeOf (Command.UnlistedEscape b) = b
-codeOf Command.Reset = 0x40
-codeOf (Command.Mode c) = modeCode c
-codeOf (Command.Parameter c n) = parameterCode c
-codeOf (Command.Feed n) = 0x4A
-codeOf (Command.LeftMargin n) = 0x6C
-codeOf (Command.RightMargin n) = 0x51
-codeOf (Command.PageLines n) = 0x43
-codeOf (Command.PageInches n) = 0x43
-codeOf (Command.Absolute a b) = 0x24
-codeOf (Command.Relative a b) = 0x5C
-codeOf (Command.OpenImage d a b) = imageCode d
-codeOf (Command.ImageByte d b) = b
-codeOf (Command.OpenList t) = listCode t
-codeOf (Command.ListByte t b) = b
-codeOf (Command.EndList t b) = b
+-- an escape begun: its second byte, and its arguments so far
+abbrev pub begunBy : Begun → List ℕ
+begunBy (Begun.One c) = oneCode c ∷ []
+begunBy Begun.PageLength = pageCode ∷ []
+begunBy Begun.PageInches = pageCode ∷ 0 ∷ []
+begunBy (Begun.FirstOf c) = twoCode c ∷ []
+begunBy (Begun.SecondOf c a) = twoCode c ∷ a ∷ []
+
+-- (what is not listed has no code, and is never looked up)
+abbrev pub firstCode : First → ℕ
+firstCode (First.Control c) = controlCode c
+firstCode First.Escape = 0x1B
+firstCode First.Unlisted = 0
+
+abbrev pub secondCode : Second → ℕ
+secondCode (Second.Control c) = controlCode c
+secondCode Second.Reset = 0x40
+secondCode (Second.Mode c) = modeRow c .code
+secondCode (Second.Switch w) = switchRow w .code
+secondCode (Second.Begins w) = getD (begunBy w) 0 0
+secondCode (Second.List Tabs.Horizontal) = 0x44
+secondCode (Second.List Tabs.Vertical) = 0x42
+secondCode Second.Unlisted = 0
+
+-- What is listed
+
+-- the control bytes, and ESC
+unfoldable pub firsts : List First
+firsts =
+    map First.Control
+    (Control.Backspace ∷ Control.HorizontalTab ∷ Control.LineFeed ∷ Control.VerticalTab ∷ Control.FormFeed ∷
+    Control.CarriageReturn ∷ Control.ShiftOut ∷ Control.ShiftIn ∷ Control.Dc2 ∷ Control.Dc4 ∷ [])
+    ++ (First.Escape ∷ [])
+
+-- the escapes without an argument that change a setting, those with one that do, and the others
+unfoldable pub plainEscapes : List Second
+plainEscapes = map Second.Control (Control.ShiftOut ∷ Control.ShiftIn ∷ []) ++ map Second.Mode modes ++ map Second.Switch looks
+
+abbrev one : One → Second
+one c = Second.Begins (Begun.One c)
+
+unfoldable pub argumentEscapes : List Second
+argumentEscapes = map (λ c. one (One.Parameter c)) parameters ++ map (λ c. one (One.Choice c)) choices
+
+unfoldable pub otherEscapes : List Second
+otherEscapes =
+    map one (One.Skip ∷ One.Feed ∷ One.Margin Side.Left ∷ One.Margin Side.Right ∷ [])
+    ++ map (λ c. Second.Begins (Begun.FirstOf c))
+    (Two.Move Move.Absolute ∷ Two.Move Move.Relative ∷ Two.Image Density.Single ∷
+    Two.Image Density.Double ∷ Two.Image Density.DoubleSpeed ∷ Two.Image Density.Quadruple ∷ [])
+    ++ (Second.Begins Begun.PageLength ∷ Second.List Tabs.Horizontal ∷ Second.List Tabs.Vertical ∷ Second.Reset ∷ [])
+
+unfoldable pub seconds : List Second
+seconds = plainEscapes ++ (argumentEscapes ++ otherEscapes)
+
+-- Commands as received
+
+-- a command's bytes: its code and its arguments. An escape's first byte is a command by itself, so its code is its second byte.
+pub data Received : Type 0 where
+  by : (code : ℕ) → (arguments : List ℕ) → Received
+
+abbrev pub refusedBy : Refused → Received
+refusedBy (Refused.Byte b) = by b []
+refusedBy (Refused.Escape b) = by b []
+
+abbrev pub silentBy : Silent → Received
+silentBy (Silent.Escape b) = by b []
+
+abbrev pub lookBy : Look → Received
+lookBy (Look.Switch w) = by (secondCode (Second.Switch w)) []
+lookBy (Look.Choice c n) = by (oneCode (One.Choice c)) (n ∷ [])
+
+abbrev pub pageBy : Page → Received
+pageBy (Page.Lines n) = by pageCode (n ∷ [])
+pageBy (Page.Inches n) = by pageCode (0 ∷ n ∷ [])
+
+abbrev pub listBy : Tabs → ListPart → Received
+listBy t ListPart.Open = by (secondCode (Second.List t)) []
+listBy t (ListPart.Byte b) = by b []
+listBy t (ListPart.End b) = by b []
+
+abbrev pub received : Command → Received
+received (Command.Letter b) = by b []
+received (Command.Control c b) = by b []
+received (Command.Refused r) = refusedBy r
+received (Command.Silent k) = silentBy k
+received Command.Reset = by (secondCode Second.Reset) []
+received (Command.Mode c) = by (secondCode (Second.Mode c)) []
+received (Command.Parameter c n) = by (oneCode (One.Parameter c)) (n ∷ [])
+received (Command.Look k) = lookBy k
+received (Command.Skip n) = by (oneCode One.Skip) (n ∷ [])
+received (Command.Feed n) = by (oneCode One.Feed) (n ∷ [])
+received (Command.Margin side n) = by (oneCode (One.Margin side)) (n ∷ [])
+received (Command.Page g) = pageBy g
+received (Command.Move m a b) = by (twoCode (Two.Move m)) (a ∷ b ∷ [])
+received (Command.OpenImage d a b) = by (twoCode (Two.Image d)) (a ∷ b ∷ [])
+received (Command.ImageByte d b) = by b []
+received (Command.List t part) = listBy t part
+
+abbrev pub speltAs : Received → List ℕ
+speltAs (by code arguments) = code ∷ arguments
+
+-- a NO's byte: the letter, image or list byte passed over, else the control byte or the escape's second byte
+abbrev pub showsAs : Received → ℕ
+showsAs (by code arguments) = code
+
+abbrev pub spelt : Command → List ℕ
+spelt c = speltAs (received c)
+
+abbrev pub shows : Command → ℕ
+shows c = showsAs (received c)

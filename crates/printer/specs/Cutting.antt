@@ -6,9 +6,9 @@ use lib.ListN.{drop}
 use Rattle.printer.specs.Tools.{Each}
 use Rattle.printer.specs.Records.{encodedAll}
 use Rattle.printer.specs.Steps.{stateAfter, recordsOver}
-use Rattle.printer.specs.Calls.{ReadCall, ReadingPromise, bytesOf, writtenOf}
-use Rattle.printer.specs.declared.answers.Answer.{Answer}
-use Rattle.printer.specs.declared.state.Printer.{Printer}
+use Rattle.printer.specs.Calls.{ReadCall, bytesOf, writtenOf}
+use Rattle.printer.specs.Promises.{ReadingPromise}
+use Rattle.printer.specs.Types.{Answer, Printer}
 
 -- each call met its promise, and got the state that the call before it returned or left
 abbrev pub Readings : Printer → List ReadCall → Type 0

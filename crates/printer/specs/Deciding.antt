@@ -1,173 +1,130 @@
 -- Document 01, 'Widths' and 'Commands': which commands are done and which are passed over.
 use Prim.Native.Nat.{ℕ, zero, suc, _+_, _*_, _-_, _/_}
-use mathlib.Core.Bool.{Bool, true}
+use mathlib.Core.Bool.{Bool, true, false}
 use mathlib.Core.List.{List, [], _∷_}
 use lib.Dec.{leb, ltb, eqb}
-use Rattle.printer.specs.Tools.{pick, either, within, Order, _upTo_, holds}
-use Rattle.printer.specs.Widths.{advance, columnWidth, imageStep}
-use Rattle.printer.specs.Settings.{leftOf, rightOf, pageOf, lineOf, edgeOf, relativeStep, acrossOf, downOf, columnsOf, linesOf}
+use Rattle.printer.specs.Tools.{pick, within, Order, _upTo_, passes, holds}
+use Rattle.printer.specs.Units.{units, paperWidth, shortestPage, longestPage}
+use Rattle.printer.specs.Widths.{imageStep}
+use Rattle.printer.specs.Settings.{leftOf, rightOf, pageOf, lineOf, edgeOf, relativeStep, advanceOf, columnOf, acrossOf, downOf, heldIn}
+use Rattle.printer.specs.Escapes.{parameterRow, lookTakes}
 use Rattle.printer.specs.Records.{unlisted, notAllowed, pastLimits, doesNotFit, noStop}
-use Rattle.printer.specs.Performing.{Event, done, passed, inside, automatic, stopAt, perform}
-use Rattle.printer.specs.declared.commands.Command.{Command}
-use Rattle.printer.specs.declared.commands.Control.{Control}
-use Rattle.printer.specs.declared.commands.Mode.{Mode}
-use Rattle.printer.specs.declared.commands.Parameter.{Parameter}
-use Rattle.printer.specs.declared.commands.Tabs.{Tabs}
-use Rattle.printer.specs.declared.settings.Pitch.{Pitch}
-use Rattle.printer.specs.declared.settings.Settings.{Settings}
-use Rattle.printer.specs.declared.settings.Width.{Width}
-use Rattle.printer.specs.declared.state.Place.{Place}
-use Rattle.printer.specs.declared.state.Printer.{Printer}
-use Rattle.printer.specs.declared.stops.Stop.{Stop}
-use Rattle.printer.specs.declared.stops.Stops.{Stops}
+use Rattle.printer.specs.Performing.{Event, done, passed, inside, automatic, stopAt, stopOf, pageUnits, perform}
+use Rattle.printer.specs.Types.{Command, Control, ListPart, Move, Page, Pitch, Place, Printer, Refused, Settings, Side, Stop, Stops, Tabs, Width}
 
--- Range: reason 2
+-- Range: reason 2; that of settings stands in their rows
 
--- 0, 1, 30h, 31h
-abbrev pub switches : ℕ → Bool
-switches n = either (leb n 1) (within 0x30 0x31 n)
+-- ESC N n (1 to 127)
+abbrev pub skipRange : ℕ → Bool
+skipRange n = within 1 127 n
 
--- 0 to 13, 40h
-abbrev pub countries : ℕ → Bool
-countries n = either (leb n 13) (eqb n 0x40)
+-- ESC C n (1 to 127); ESC C 0 n (1 to 22)
+abbrev pub pageRange : Page → Bool
+pageRange (Page.Lines n) = within 1 127 n
+pageRange (Page.Inches n) = within 1 22 n
 
-unfoldable pub inRange : Parameter → ℕ → Bool
-inRange Parameter.Line180ths n = true
-inRange Parameter.Line60ths n = leb n 85
-inRange Parameter.Line360ths n = true
-inRange Parameter.Skip n = within 1 127 n
-inRange Parameter.Spacing n = true
-inRange Parameter.Proportional n = switches n
-inRange Parameter.Script n = switches n
-inRange Parameter.Quality n = switches n
-inRange Parameter.DoubleWidth n = switches n
-inRange Parameter.DoubleHeight n = switches n
-inRange Parameter.Underline n = switches n
-inRange Parameter.Download n = switches n
-inRange Parameter.CodeTable n = leb n 1
-inRange Parameter.Country n = countries n
-inRange Parameter.Outline n = leb n 3
-inRange Parameter.Font n = true
-inRange Parameter.Master n = true
+-- What a command needs of the settings and the place at which it is done. Those of LF, HT, VT and ESC J, which are not decided by it, say what
+-- holds of the number of pages turned or of the stop taken.
 
--- Geometry: what a command needs of the settings and the place at which it is done. Those of LF, HT, VT and ESC J, which always find something
--- to do, say what holds of the pages or the stop that is told.
-
--- 1 at 15 cpi, where SI is not allowed
-abbrev pub fifteens : Pitch → ℕ
-fifteens Pitch.Cpi10 = 0
-fifteens Pitch.Cpi12 = 0
-fifteens Pitch.Cpi15 = 1
+-- SI: not at 15 cpi
+abbrev pub canReduce : Pitch → Bool
+canReduce Pitch.Cpi10 = true
+canReduce Pitch.Cpi12 = true
+canReduce Pitch.Cpi15 = false
 
 abbrev pub reducedNeeds : Width → List Order
-reducedNeeds w = _upTo_ (fifteens (w .pitch)) 0 ∷ []
+reducedNeeds w = passes (canReduce (w .pitch)) ∷ []
 
 -- LF: the page turns just if the sum reaches the edge
 abbrev pub lineNeeds : Settings → Place → ℕ → List Order
-lineNeeds s x zero = _upTo_ (suc (downOf x + lineOf s)) (edgeOf s) ∷ []
-lineNeeds s x (suc pages) = _upTo_ (edgeOf s) (downOf x + lineOf s) ∷ _upTo_ pages 0 ∷ []
+lineNeeds s x zero = (suc (downOf x + lineOf s) upTo edgeOf s) ∷ []
+lineNeeds s x (suc pages) = (edgeOf s upTo downOf x + lineOf s) ∷ (pages upTo 0) ∷ []
 
 -- HT: the stop is to the right of the place and within the right margin
 abbrev pub tabNeeds : Settings → Place → ℕ → List Order
 tabNeeds s x n =
-    _upTo_ (suc (acrossOf x)) (leftOf s + n * columnWidth (s .width)) ∷
-    _upTo_ (leftOf s + n * columnWidth (s .width)) (rightOf s) ∷
+    (suc (acrossOf x) upTo leftOf s + n * columnOf s) ∷
+    (leftOf s + n * columnOf s upTo rightOf s) ∷
     []
 
 -- VT: the stop is before the edge
 abbrev pub verticalNeeds : Settings → List ℕ → ℕ → List Order
 verticalNeeds s l zero = []
-verticalNeeds s l (suc n) = _upTo_ (suc (stopAt l (suc n))) (edgeOf s) ∷ []
+verticalNeeds s l (suc n) = (suc (stopAt l (suc n)) upTo edgeOf s) ∷ []
 
 abbrev pub controlNeeds : Settings → Stops → Place → Control → ℕ → List Order
-controlNeeds s t x Control.CarriageReturn told = []
-controlNeeds s t x Control.LineFeed told = lineNeeds s x told
-controlNeeds s t x Control.FormFeed told = []
-controlNeeds s t x Control.HorizontalTab told = tabNeeds s x (stopAt (columnsOf (t .columns)) told)
-controlNeeds s t x Control.VerticalTab told = verticalNeeds s (linesOf (t .lines)) told
-controlNeeds s t x Control.Backspace told = _upTo_ (leftOf s + advance (s .width)) (acrossOf x) ∷ []
-controlNeeds s t x Control.ShiftOut told = []
-controlNeeds s t x Control.ShiftIn told = reducedNeeds (s .width)
-controlNeeds s t x Control.Dc2 told = []
-controlNeeds s t x Control.Dc4 told = []
-
-abbrev pub modeNeeds : Settings → Mode → List Order
-modeNeeds s Mode.EighthInchLine = []
-modeNeeds s Mode.SixthInchLine = []
-modeNeeds s Mode.NoSkip = []
-modeNeeds s Mode.WideOnce = []
-modeNeeds s Mode.Reduced = reducedNeeds (s .width)
-modeNeeds s (Mode.Pitch p) = []
-modeNeeds s (Mode.Bold x) = []
-modeNeeds s (Mode.DoubleStrike x) = []
-modeNeeds s (Mode.Italic x) = []
-modeNeeds s Mode.NoScript = []
-modeNeeds s (Mode.UpperPrints x) = []
+controlNeeds s t x Control.CarriageReturn m = []
+controlNeeds s t x Control.LineFeed m = lineNeeds s x m
+controlNeeds s t x Control.FormFeed m = []
+controlNeeds s t x Control.HorizontalTab m = tabNeeds s x (stopAt (heldIn (t .columns)) m)
+controlNeeds s t x Control.VerticalTab m = verticalNeeds s (heldIn (t .lines)) m
+controlNeeds s t x Control.Backspace m = (leftOf s + advanceOf s upTo acrossOf x) ∷ []
+controlNeeds s t x Control.ShiftOut m = []
+controlNeeds s t x Control.ShiftIn m = reducedNeeds (s .width)
+controlNeeds s t x Control.Dc2 m = []
+controlNeeds s t x Control.Dc4 m = []
 
 -- ESC N: 3,600 remain, and the place is before the new edge
 abbrev pub skipNeeds : Settings → Place → ℕ → List Order
 skipNeeds s x n =
-    _upTo_ (3600 + n * lineOf s) (pageOf s) ∷ _upTo_ (suc (downOf x + n * lineOf s)) (pageOf s) ∷ []
+    (shortestPage + n * lineOf s upTo pageOf s) ∷ (suc (downOf x + n * lineOf s) upTo pageOf s) ∷ []
 
-abbrev pub parameterNeeds : Settings → Place → Parameter → ℕ → List Order
-parameterNeeds s x Parameter.Line180ths n = []
-parameterNeeds s x Parameter.Line60ths n = []
-parameterNeeds s x Parameter.Line360ths n = []
-parameterNeeds s x Parameter.Skip n = skipNeeds s x n
-parameterNeeds s x Parameter.Spacing n = []
-parameterNeeds s x Parameter.Proportional n = []
-parameterNeeds s x Parameter.Script n = []
-parameterNeeds s x Parameter.Quality n = []
-parameterNeeds s x Parameter.DoubleWidth n = []
-parameterNeeds s x Parameter.DoubleHeight n = []
-parameterNeeds s x Parameter.Underline n = []
-parameterNeeds s x Parameter.Download n = []
-parameterNeeds s x Parameter.CodeTable n = []
-parameterNeeds s x Parameter.Country n = []
-parameterNeeds s x Parameter.Outline n = []
-parameterNeeds s x Parameter.Font n = []
-parameterNeeds s x Parameter.Master n = []
+-- ESC l, ESC Q: left < right ≤ 28,800
+abbrev pub marginNeeds : Settings → Side → ℕ → List Order
+marginNeeds s Side.Left n = (suc n upTo rightOf s) ∷ []
+marginNeeds s Side.Right n = (suc (leftOf s) upTo n) ∷ (n upTo paperWidth) ∷ []
 
 -- ESC \: the move stays between the margins
 abbrev pub relativeNeeds : Settings → Place → ℕ → List Order
 relativeNeeds s x n =
     pick (ltb n 0x8000)
-    (_upTo_ (acrossOf x + n * relativeStep s) (rightOf s) ∷ [])
-    (_upTo_ (leftOf s + (0x10000 - n) * relativeStep s) (acrossOf x) ∷ [])
+    ((acrossOf x + n * relativeStep s upTo rightOf s) ∷ [])
+    ((leftOf s + (0x10000 - n) * relativeStep s upTo acrossOf x) ∷ [])
 
--- a stop: not past 32 (16); within the right margin, or from 1 to the edge less 1
+-- ESC $, ESC \
+abbrev pub moveNeeds : Settings → Place → Move → ℕ → List Order
+moveNeeds s x Move.Absolute n = (leftOf s + 60 * n upTo rightOf s) ∷ []
+moveNeeds s x Move.Relative n = relativeNeeds s x n
+
+-- at most 32 horizontal and 16 vertical stops
+abbrev pub mostStops : Tabs → ℕ
+mostStops Tabs.Horizontal = 32
+mostStops Tabs.Vertical = 16
+
+-- a stop: within the right margin, or from 1 to the edge less 1
+abbrev pub stopPlace : Settings → Tabs → ℕ → List Order
+stopPlace s Tabs.Horizontal n = (leftOf s + n * columnOf s upTo rightOf s) ∷ []
+stopPlace s Tabs.Vertical n = (1 upTo n) ∷ (suc n upTo edgeOf s) ∷ []
+
 abbrev pub stopNeeds : Settings → Stops → Tabs → ℕ → List Order
-stopNeeds s t Tabs.Horizontal n =
-    _upTo_ (suc (t .gatheredcolumns .count)) 32 ∷ _upTo_ (leftOf s + n * columnWidth (s .width)) (rightOf s) ∷ []
-stopNeeds s t Tabs.Vertical n =
-    _upTo_ (suc (t .gatheredlines .count)) 16 ∷ _upTo_ 1 (n * lineOf s) ∷ _upTo_ (suc (n * lineOf s)) (edgeOf s) ∷ []
+stopNeeds s t k b = (suc (t .gathered .count) upTo mostStops k) ∷ stopPlace s k (stopOf s k b)
+
+abbrev pub listNeeds : Settings → Stops → Tabs → ListPart → List Order
+listNeeds s t k ListPart.Open = []
+listNeeds s t k (ListPart.Byte b) = stopNeeds s t k b
+listNeeds s t k (ListPart.End b) = []
 
 abbrev pub needs : Settings → Stops → Place → Command → ℕ → List Order
-needs s t x (Command.Letter b) told = _upTo_ (acrossOf x + advance (s .width)) (rightOf s) ∷ []
-needs s t x (Command.Control c b) told = controlNeeds s t x c told
-needs s t x (Command.Escape b) told = []
-needs s t x (Command.Unlisted b) told = []
-needs s t x (Command.UnlistedEscape b) told = []
-needs s t x Command.Reset told = []
-needs s t x (Command.Mode c) told = modeNeeds s c
-needs s t x (Command.Parameter c n) told = parameterNeeds s x c n
-needs s t x (Command.Feed n) told =
-    _upTo_ told ((downOf x + 20 * n) / edgeOf s) ∷ _upTo_ ((downOf x + 20 * n) / edgeOf s) told ∷ []
-needs s t x (Command.LeftMargin n) told = _upTo_ (suc (n * columnWidth (s .width))) (rightOf s) ∷ []
-needs s t x (Command.RightMargin n) told =
-    _upTo_ (suc (leftOf s)) (n * columnWidth (s .width)) ∷ _upTo_ (n * columnWidth (s .width)) 28800 ∷ []
-needs s t x (Command.PageLines n) told = _upTo_ 3600 (n * lineOf s) ∷ _upTo_ (n * lineOf s) 79200 ∷ []
-needs s t x (Command.PageInches n) told = _upTo_ 3600 (3600 * n) ∷ _upTo_ (3600 * n) 79200 ∷ []
-needs s t x (Command.Absolute a b) told = _upTo_ (leftOf s + 60 * (a + 256 * b)) (rightOf s) ∷ []
-needs s t x (Command.Relative a b) told = relativeNeeds s x (a + 256 * b)
-needs s t x (Command.OpenImage d a b) told = []
-needs s t x (Command.ImageByte d b) told = _upTo_ (acrossOf x + imageStep d) (rightOf s) ∷ []
-needs s t x (Command.OpenList k) told = []
-needs s t x (Command.ListByte k b) told = stopNeeds s t k b
-needs s t x (Command.EndList k b) told = []
+needs s t x (Command.Letter b) number = (acrossOf x + advanceOf s upTo rightOf s) ∷ []
+needs s t x (Command.Control c b) number = controlNeeds s t x c number
+needs s t x (Command.Refused r) number = []
+needs s t x (Command.Silent k) number = []
+needs s t x Command.Reset number = []
+needs s t x (Command.Mode c) number = []
+needs s t x (Command.Parameter c n) number = []
+needs s t x (Command.Look k) number = []
+needs s t x (Command.Skip n) number = skipNeeds s x n
+needs s t x (Command.Feed n) number =
+    (number upTo (downOf x + 20 * n) / edgeOf s) ∷ ((downOf x + 20 * n) / edgeOf s upTo number) ∷ []
+needs s t x (Command.Margin side n) number = marginNeeds s side (n * columnOf s)
+needs s t x (Command.Page g) number = (shortestPage upTo pageUnits s g) ∷ (pageUnits s g upTo longestPage) ∷ []
+needs s t x (Command.Move m a b) number = moveNeeds s x m (a + 256 * b)
+needs s t x (Command.OpenImage d a b) number = []
+needs s t x (Command.ImageByte d b) number = (acrossOf x + imageStep d upTo rightOf s) ∷ []
+needs s t x (Command.List k part) number = listNeeds s t k part
 
 abbrev pub needsAt : Printer → Command → ℕ → List Order
-needsAt p c told = needs (p .settings) (p .stops) (p .place) c told
+needsAt p c number = needs (p .settings) (p .stops) (p .place) c number
 
 -- Deciding
 
@@ -199,7 +156,8 @@ feedAfterReturn p = pick (p .settings .setup .autofeed) (inside Control.LineFeed
 -- HT: the first stop above across and not past right, by its number; the list's first is the k-th
 unfoldable pub columnFrom : Settings → Place → ℕ → List ℕ → Stop
 columnFrom s x k [] = Stop.Missing
-columnFrom s x k (n ∷ l) = pick (holds (tabNeeds s x n)) (Stop.Found k n) (columnFrom s x (suc k) l)
+columnFrom s x k (n ∷ l) =
+    pick (holds (tabNeeds s x n)) (Stop.Found k (units (leftOf s + n * columnOf s))) (columnFrom s x (suc k) l)
 
 abbrev pub tabEvent : Command → Stop → Event
 tabEvent c (Stop.Found k n) = done c k
@@ -208,7 +166,7 @@ tabEvent c Stop.Missing = passed c noStop
 -- VT: the first stop greater than down
 unfoldable pub lineFrom : ℕ → ℕ → List ℕ → Stop
 lineFrom down k [] = Stop.Missing
-lineFrom down k (n ∷ l) = pick (ltb down n) (Stop.Found k n) (lineFrom down (suc k) l)
+lineFrom down k (n ∷ l) = pick (ltb down n) (Stop.Found k (units n)) (lineFrom down (suc k) l)
 
 -- VT performed as another command
 abbrev pub formInside : Command → List Event
@@ -216,7 +174,7 @@ formInside c = done c 0 ∷ inside Control.FormFeed 0 ∷ []
 
 -- go to the stop; if there is none, or it is at or past the edge: FF
 abbrev pub verticalEvents : Printer → Command → Stop → List Event
-verticalEvents p c (Stop.Found k n) = pick (ltb n (edgeOf (p .settings))) (done c k ∷ []) (formInside c)
+verticalEvents p c (Stop.Found k n) = pick (ltb (n .0) (edgeOf (p .settings))) (done c k ∷ []) (formInside c)
 verticalEvents p c Stop.Missing = formInside c
 
 -- never set: LF; list empty: CR; else the search
@@ -225,7 +183,7 @@ vertical p c =
     pick (p .stops .lineset)
     (pick (eqb (p .stops .lines .count) 0)
     (done c 0 ∷ inside Control.CarriageReturn 0 ∷ feedAfterReturn (perform (perform p (done c 0)) (inside Control.CarriageReturn 0)))
-    (verticalEvents p c (lineFrom (downOf (p .place)) 1 (linesOf (p .stops .lines)))))
+    (verticalEvents p c (lineFrom (downOf (p .place)) 1 (heldIn (p .stops .lines)))))
     (done c 0 ∷ inside Control.LineFeed (pagesOfLine p) ∷ [])
 
 abbrev pub controlEvents : Printer → Control → ℕ → List Event
@@ -236,7 +194,7 @@ controlEvents p Control.LineFeed b = done (Command.Control Control.LineFeed b) (
 controlEvents p Control.FormFeed b = done (Command.Control Control.FormFeed b) 0 ∷ []
 controlEvents p Control.HorizontalTab b =
     tabEvent (Command.Control Control.HorizontalTab b)
-    (columnFrom (p .settings) (p .place) 1 (columnsOf (p .stops .columns)))
+    (columnFrom (p .settings) (p .place) 1 (heldIn (p .stops .columns)))
     ∷ []
 controlEvents p Control.VerticalTab b = vertical p (Command.Control Control.VerticalTab b)
 controlEvents p Control.Backspace b = attempt p (Command.Control Control.Backspace b) pastLimits ∷ []
@@ -245,29 +203,28 @@ controlEvents p Control.ShiftIn b = attempt p (Command.Control Control.ShiftIn b
 controlEvents p Control.Dc2 b = done (Command.Control Control.Dc2 b) 0 ∷ []
 controlEvents p Control.Dc4 b = done (Command.Control Control.Dc4 b) 0 ∷ []
 
+-- why it is always passed over
+abbrev pub reasonOf : Refused → ℕ
+reasonOf (Refused.Byte b) = unlisted
+reasonOf (Refused.Escape b) = unlisted
+
 -- what the rules do at a command
 abbrev pub decide : Printer → Command → List Event
 decide p (Command.Letter b) = letterEvents p b
 decide p (Command.Control c b) = controlEvents p c b
-decide p (Command.Escape b) = done (Command.Escape b) 0 ∷ []
-decide p (Command.Unlisted b) = passed (Command.Unlisted b) unlisted ∷ []
-decide p (Command.UnlistedEscape b) = passed (Command.UnlistedEscape b) unlisted ∷ []
+decide p (Command.Refused r) = passed (Command.Refused r) (reasonOf r) ∷ []
+decide p (Command.Silent k) = done (Command.Silent k) 0 ∷ []
 decide p Command.Reset = done Command.Reset 0 ∷ []
-decide p (Command.Mode c) = attempt p (Command.Mode c) notAllowed ∷ []
+decide p (Command.Mode c) = done (Command.Mode c) 0 ∷ []
 decide p (Command.Parameter c n) =
-    ranged (inRange c n) (Command.Parameter c n) (attempt p (Command.Parameter c n) pastLimits) ∷ []
+    ranged (parameterRow c .takes n) (Command.Parameter c n) (done (Command.Parameter c n) 0) ∷ []
+decide p (Command.Look k) = ranged (lookTakes k) (Command.Look k) (done (Command.Look k) 0) ∷ []
+decide p (Command.Skip n) = ranged (skipRange n) (Command.Skip n) (attempt p (Command.Skip n) pastLimits) ∷ []
 decide p (Command.Feed n) =
     done (Command.Feed n) ((downOf (p .place) + 20 * n) / edgeOf (p .settings)) ∷ []
-decide p (Command.LeftMargin n) = attempt p (Command.LeftMargin n) pastLimits ∷ []
-decide p (Command.RightMargin n) = attempt p (Command.RightMargin n) pastLimits ∷ []
-decide p (Command.PageLines n) =
-    ranged (within 1 127 n) (Command.PageLines n) (attempt p (Command.PageLines n) pastLimits) ∷ []
-decide p (Command.PageInches n) =
-    ranged (within 1 22 n) (Command.PageInches n) (attempt p (Command.PageInches n) pastLimits) ∷ []
-decide p (Command.Absolute a b) = attempt p (Command.Absolute a b) pastLimits ∷ []
-decide p (Command.Relative a b) = attempt p (Command.Relative a b) pastLimits ∷ []
+decide p (Command.Margin side n) = attempt p (Command.Margin side n) pastLimits ∷ []
+decide p (Command.Page g) = ranged (pageRange g) (Command.Page g) (attempt p (Command.Page g) pastLimits) ∷ []
+decide p (Command.Move m a b) = attempt p (Command.Move m a b) pastLimits ∷ []
 decide p (Command.OpenImage d a b) = done (Command.OpenImage d a b) 0 ∷ []
 decide p (Command.ImageByte d b) = attempt p (Command.ImageByte d b) doesNotFit ∷ []
-decide p (Command.OpenList k) = done (Command.OpenList k) 0 ∷ []
-decide p (Command.ListByte k b) = attempt p (Command.ListByte k b) pastLimits ∷ []
-decide p (Command.EndList k b) = done (Command.EndList k b) 0 ∷ []
+decide p (Command.List k part) = attempt p (Command.List k part) pastLimits ∷ []

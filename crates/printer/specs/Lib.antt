@@ -1,25 +1,37 @@
--- Document 01 as definitions, in the paper's order.
--- 'Units, page and power-on': Units (rounding), Bounds ('At every moment'), PowerOn. 'Calls and their numbers': Calls.
--- 'Records': Records (fields, bytes, style bits, reasons), Codes (a NO's byte). 'Widths': Widths; what a letter is: Framing.
--- 'Commands': Framing (bytes to commands; ESC 6 and 7; lists and images), Deciding (ranges, margins, page and stop limits, searches, automatic lines),
--- Performing (what each command leaves and writes), Steps. Its last two paragraphs: InForce, Reckoning, Demand3. 'Checked by hand': Cases.
--- Tools and Settings: what these share. Spelling and Cutting: the terms of two theorems.
+-- Document 01 as definitions.
+
+-- The rules, which must be believed, in the paper's order where they can stand so.
+pub mod Types
 pub mod Tools
+-- 'Units, page and power-on': rounding; settings; power-on
 pub mod Units
 pub mod Widths
 pub mod Settings
 pub mod PowerOn
-pub mod Framing
+-- 'Commands' and what a letter is: the escapes that change settings; the codes; bytes to commands
+pub mod Escapes
 pub mod Codes
+pub mod Framing
+-- 'Records'
 pub mod Records
+-- 'Commands': what is done and left and written; which is done and which passed over; a byte and an input
 pub mod Performing
 pub mod Deciding
 pub mod Steps
+-- 'At every moment', and 'Calls and their numbers'
 pub mod Bounds
 pub mod Calls
+-- The terms of promises and theorems, which say what holds of the code and what follows from the rules.
+pub mod Promises
+-- states that the bounds accept
+pub mod Accepted
+-- 'Checked by hand'; demand 2: cutting; the spelling law; records read back
+pub mod Decoding
+pub mod Cases
 pub mod Cutting
 pub mod Spelling
+-- demand 3, the last two paragraphs of 'Commands': the reckoning's settings and places, the records that it says are written, the claim
 pub mod InForce
 pub mod Reckoning
+pub mod Shown
 pub mod Demand3
-pub mod Cases

@@ -1,66 +1,37 @@
 -- Document 01, 'Power-on and ESC @'.
+use Prim.Native.Nat.{ℕ, _-_}
 use mathlib.Core.Bool.{true, false}
 use mathlib.Core.List.{[], _∷_, _++_}
 use lib.ListN.{replicate}
-use Rattle.printer.specs.Units.{units}
-use Rattle.printer.specs.Settings.{at}
-use Rattle.printer.specs.declared.commands.Waiting.{Waiting}
-use Rattle.printer.specs.declared.settings.Pitch.{Pitch}
-use Rattle.printer.specs.declared.settings.Setup.{Setup}
-use Rattle.printer.specs.declared.settings.Settings.{Settings}
-use Rattle.printer.specs.declared.state.Printer.{Printer}
-use Rattle.printer.specs.declared.stops.Columns.{Columns}
-use Rattle.printer.specs.declared.stops.Lines.{Lines}
-use Rattle.printer.specs.declared.stops.Stops.{Stops}
+use Rattle.printer.specs.Units.{paperWidth}
+use Rattle.printer.specs.Settings.{at, widthOf, emphasisOf, scriptOf, faceOf, marginsOf, paperOf, settingsOf}
+use Rattle.printer.specs.Types.{Pitch, Printer, Settings, Setup, Stops, TabStops, Waiting}
 
+-- 10 cpi; font, country, spacing and style 0; left 0, right 28,800; page 39,600, skip 0, line 600; letter quality; upper codes print
 abbrev pub powerOnSettings : Setup → Settings
 powerOnSettings t =
-    record {
-      setup = t;
-      width =
-          record {
-            pitch = Pitch.Cpi10;
-            spacing = 0;
-            wide = false;
-            wideonce = false;
-            reduced = false;
-            proportional = false;
-          };
-      emphasis = record { bold = false; doublestrike = false; italic = false; underline = false };
-      script = record { superscript = false; subscript = false };
-      face =
-          record {
-            font = 0;
-            country = 0;
-            outline = 0;
-            doubleheight = false;
-            italictable = false;
-            download = false;
-          };
-      margins = record { left = units 0; right = units 28800 };
-      paper = record { page = units 39600; skip = units 0; line = units 600 };
-      draft = false;
-      upperprints = true;
-    }
+    settingsOf t (widthOf Pitch.Cpi10 0 false false false false) (emphasisOf false false false false) (scriptOf false false)
+    (faceOf 0 0 0 false false false) (marginsOf 0 paperWidth) (paperOf 39600 0 600) false true
 
-abbrev pub noColumns : Columns
-noColumns = record { stops = replicate 32 0; count = 0 }
+-- the room of a list of stops
+abbrev pub stopRoom : ℕ
+stopRoom = 32
 
-abbrev pub noLines : Lines
-noLines = record { stops = replicate 16 0; count = 0 }
+abbrev pub noStops : TabStops
+noStops = record { stops = replicate stopRoom 0; count = 0 }
 
 -- horizontal stops at columns 8, 16 .. 72; vertical stops never set
 abbrev pub powerOnStops : Stops
 powerOnStops =
     record {
       columns =
-          record { stops = (8 ∷ 16 ∷ 24 ∷ 32 ∷ 40 ∷ 48 ∷ 56 ∷ 64 ∷ 72 ∷ []) ++ replicate 23 0; count = 9 };
-      lines = noLines;
+          record { stops = (8 ∷ 16 ∷ 24 ∷ 32 ∷ 40 ∷ 48 ∷ 56 ∷ 64 ∷ 72 ∷ []) ++ replicate (stopRoom - 9) 0; count = 9 };
+      lines = noStops;
       lineset = false;
-      gatheredcolumns = noColumns;
-      gatheredlines = noLines;
+      gathered = noStops;
     }
 
+-- across and down 0; waiting for nothing
 abbrev pub powerOn : Setup → Printer
 powerOn t =
     record { settings = powerOnSettings t; place = at 0 0; stops = powerOnStops; waiting = Waiting.Nothing }

@@ -1,19 +1,14 @@
 -- The reckoning of demand 3: the last two paragraphs of document 01's 'Commands'. It is fed the starts' settings and the commands done,
--- as received, with what the rules tell of them, and keeps settings, margins, stops and places of its own. It reads no printer.
+-- as received, with the number that goes with them, and keeps settings, margins, stops and places of its own. It reads no printer.
 use Prim.Native.Nat.{ℕ, zero, suc, _+_, _*_, _-_}
+use mathlib.Core.Bool.{true, false}
 use mathlib.Core.List.{List, [], _∷_, _++_}
-use lib.Dec.{leb, eqb}
+use lib.Dec.{leb}
 use lib.ListN.{getD}
 use Rattle.printer.specs.Tools.{pick}
-use Rattle.printer.specs.Widths.{advance, columnWidth}
-use Rattle.printer.specs.Performing.{Event, done, passed, inside, automatic}
-use Rattle.printer.specs.declared.commands.Command.{Command}
-use Rattle.printer.specs.declared.commands.Control.{Control}
-use Rattle.printer.specs.declared.commands.Density.{Density}
-use Rattle.printer.specs.declared.commands.Mode.{Mode}
-use Rattle.printer.specs.declared.commands.Parameter.{Parameter}
-use Rattle.printer.specs.declared.records.Mark.{Mark}
-use Rattle.printer.specs.InForce.{InForce, atStart, enforceControl, enforce}
+use Rattle.printer.specs.Performing.{Event, done, passed, inside, automatic, Writing, silent, letter, imageByte, feed, clear}
+use Rattle.printer.specs.Types.{Command, Control, Mark, Move, StartSettings}
+use Rattle.printer.specs.InForce.{InForce, advanceIn, columnIn, keptBy, atStart, onceInForce, reducedInForce, marginInForce, pageInForce, skipInForce, stepInForce, stepOfImage, modeInForce, parameterInForce, listInForce}
 
 -- Places
 
@@ -65,136 +60,117 @@ movedAll a (m ∷ l) = movedAll (moved a m) l
 abbrev pub exact : Axis → ℕ
 exact a = a .set + a .forth - a .back
 
--- Across
+-- Commands
 
-abbrev pub acrossByControl : InForce → Control → ℕ → Motion
-acrossByControl f Control.CarriageReturn told = sets (f .measures .left)
-acrossByControl f Control.LineFeed told = sets (f .measures .left)
-acrossByControl f Control.FormFeed told = sets (f .measures .left)
-acrossByControl f Control.HorizontalTab zero = stays
-acrossByControl f Control.HorizontalTab (suc n) =
-    sets (f .measures .left + getD (f .lists .columns) n 0 * columnWidth (f .width))
-acrossByControl f Control.VerticalTab zero = stays
-acrossByControl f Control.VerticalTab (suc n) = sets (f .measures .left)
-acrossByControl f Control.Backspace told = moves 0 (advance (f .width))
-acrossByControl f Control.ShiftOut told = stays
-acrossByControl f Control.ShiftIn told = stays
-acrossByControl f Control.Dc2 told = stays
-acrossByControl f Control.Dc4 told = stays
+-- what a command done does: what is in force after it, its motions across and down, and what it writes
+pub record Change : Type 0 where
+  pub force : InForce
+  pub across : Motion
+  pub down : Motion
+  pub writing : Writing
+
+abbrev change : InForce → Motion → Motion → Writing → Change
+change f across down w = record { force = f; across = across; down = down; writing = w }
+
+-- it only changes what is in force
+abbrev inForceOnly : InForce → Change
+inForceOnly f = change f stays stays silent
+
+-- LF: the line amount, or the top of a new page
+abbrev lineMotion : InForce → (pages : ℕ) → Motion
+lineMotion f zero = moves (f .measures .line) 0
+lineMotion f (suc n) = sets 0
+
+-- and then one page
+abbrev lineFeed : (pages : ℕ) → Writing
+lineFeed zero = feed 0
+lineFeed (suc n) = feed 1
+
+-- HT and VT: to a stop, if one is taken
+abbrev tabMotion : (ℕ → ℕ) → (stop : ℕ) → Motion
+tabMotion place zero = stays
+tabMotion place (suc n) = sets (place n)
+
+-- VT: LN if a stop is taken, and then no page
+abbrev tabFeed : (stop : ℕ) → Writing
+tabFeed zero = silent
+tabFeed (suc n) = feed 0
+
+abbrev pub controlChange : InForce → Control → ℕ → Change
+controlChange f Control.CarriageReturn n = change f (sets (f .measures .left)) stays silent
+controlChange f Control.LineFeed n = change (onceInForce f false) (sets (f .measures .left)) (lineMotion f n) (lineFeed n)
+controlChange f Control.FormFeed n = change (onceInForce f false) (sets (f .measures .left)) (sets 0) (feed 1)
+controlChange f Control.HorizontalTab n =
+    change f (tabMotion (λ m. f .measures .left + getD (f .lists .columns) m 0 * columnIn f) n) stays silent
+controlChange f Control.VerticalTab n =
+    change (onceInForce f false) (tabMotion (λ m. f .measures .left) n) (tabMotion (λ m. getD (f .lists .lines) m 0) n) (tabFeed n)
+controlChange f Control.Backspace n = change f (moves 0 (advanceIn f)) stays silent
+controlChange f Control.ShiftOut n = inForceOnly (onceInForce f true)
+controlChange f Control.ShiftIn n = inForceOnly (reducedInForce f true)
+controlChange f Control.Dc2 n = inForceOnly (reducedInForce f false)
+controlChange f Control.Dc4 n = inForceOnly (onceInForce f false)
 
 -- ESC \: the two bytes as a signed number of steps, 1/180 inch or in draft 1/120 inch
 abbrev pub relativeMotion : InForce → ℕ → ℕ → Motion
 relativeMotion f a b =
     moves ((a + 256 * b) * pick (f .draft) 30 20) (pick (leb 128 b) 65536 0 * pick (f .draft) 30 20)
 
--- by what is in force, the command, and what is told of it
-abbrev pub acrossBy : InForce → Command → ℕ → Motion
-acrossBy f (Command.Letter b) told = moves (advance (f .width)) 0
-acrossBy f (Command.Control c b) told = acrossByControl f c told
-acrossBy f (Command.Escape b) told = stays
-acrossBy f (Command.Unlisted b) told = stays
-acrossBy f (Command.UnlistedEscape b) told = stays
-acrossBy f Command.Reset told = sets 0
-acrossBy f (Command.Mode c) told = stays
-acrossBy f (Command.Parameter c n) told = stays
-acrossBy f (Command.Feed n) told = stays
-acrossBy f (Command.LeftMargin n) told = sets (n * columnWidth (f .width))
-acrossBy f (Command.RightMargin n) told = sets (f .measures .left)
-acrossBy f (Command.PageLines n) told = stays
-acrossBy f (Command.PageInches n) told = stays
-acrossBy f (Command.Absolute a b) told = sets (f .measures .left + 60 * (a + 256 * b))
-acrossBy f (Command.Relative a b) told = relativeMotion f a b
-acrossBy f (Command.OpenImage d a b) told = stays
-acrossBy f (Command.ImageByte d b) told = moves (f .step) 0
-acrossBy f (Command.OpenList k) told = stays
-acrossBy f (Command.ListByte k b) told = stays
-acrossBy f (Command.EndList k b) told = stays
+-- ESC $: from the left margin; ESC \: from here
+abbrev pub moveMotion : InForce → Move → ℕ → ℕ → Motion
+moveMotion f Move.Absolute a b = sets (f .measures .left + 60 * (a + 256 * b))
+moveMotion f Move.Relative a b = relativeMotion f a b
 
--- Down
-
-abbrev pub downByControl : InForce → Control → ℕ → Motion
-downByControl f Control.CarriageReturn told = stays
-downByControl f Control.LineFeed zero = moves (f .measures .line) 0
-downByControl f Control.LineFeed (suc pages) = sets 0
-downByControl f Control.FormFeed told = sets 0
-downByControl f Control.HorizontalTab told = stays
-downByControl f Control.VerticalTab zero = stays
-downByControl f Control.VerticalTab (suc n) = sets (getD (f .lists .lines) n 0)
-downByControl f Control.Backspace told = stays
-downByControl f Control.ShiftOut told = stays
-downByControl f Control.ShiftIn told = stays
-downByControl f Control.Dc2 told = stays
-downByControl f Control.Dc4 told = stays
-
-abbrev pub downBy : InForce → Command → ℕ → Motion
-downBy f (Command.Letter b) told = stays
-downBy f (Command.Control c b) told = downByControl f c told
-downBy f (Command.Escape b) told = stays
-downBy f (Command.Unlisted b) told = stays
-downBy f (Command.UnlistedEscape b) told = stays
-downBy f Command.Reset told = sets 0
-downBy f (Command.Mode c) told = stays
-downBy f (Command.Parameter c n) told = stays
-downBy f (Command.Feed n) told = moves (20 * n) (told * (f .measures .page - f .measures .skip))
-downBy f (Command.LeftMargin n) told = stays
-downBy f (Command.RightMargin n) told = stays
-downBy f (Command.PageLines n) told = sets 0
-downBy f (Command.PageInches n) told = sets 0
-downBy f (Command.Absolute a b) told = stays
-downBy f (Command.Relative a b) told = stays
-downBy f (Command.OpenImage d a b) told = stays
-downBy f (Command.ImageByte d b) told = stays
-downBy f (Command.OpenList k) told = stays
-downBy f (Command.ListByte k b) told = stays
-downBy f (Command.EndList k b) told = stays
+-- a row for each command, by what is in force before it and the number that goes with it
+abbrev pub changeOf : InForce → Command → ℕ → Change
+changeOf f (Command.Letter b) n = change f (moves (advanceIn f) 0) stays (letter b (advanceIn f))
+changeOf f (Command.Control c b) n = controlChange f c n
+changeOf f (Command.Refused r) n = inForceOnly f
+changeOf f (Command.Silent k) n = inForceOnly f
+changeOf f Command.Reset n = change (atStart (f .kept)) (sets 0) (sets 0) (feed 255)
+changeOf f (Command.Mode c) n = inForceOnly (modeInForce f c)
+changeOf f (Command.Parameter c a) n = inForceOnly (parameterInForce f c a)
+changeOf f (Command.Look k) n = inForceOnly f
+changeOf f (Command.Skip a) n = inForceOnly (skipInForce f (a * f .measures .line))
+-- less the pages times the edge, page length less skip
+changeOf f (Command.Feed a) n =
+    change f stays (moves (20 * a + n * f .measures .skip) (n * f .measures .page)) (feed n)
+changeOf f (Command.Margin side a) n =
+    let f′ = marginInForce f side (a * columnIn f) in change f′ (sets (f′ .measures .left)) stays clear
+changeOf f (Command.Page g) n = change (pageInForce f g) stays (sets 0) (feed 255)
+changeOf f (Command.Move m a b) n = change f (moveMotion f m a b) stays silent
+changeOf f (Command.OpenImage d a b) n = inForceOnly (stepInForce f (stepOfImage d))
+changeOf f (Command.ImageByte d b) n = change f (moves (f .step) 0) stays (imageByte b (f .step))
+changeOf f (Command.List k part) n = inForceOnly (listInForce f k part)
 
 -- The reckoning
 
--- D across and down, what is in force, the two places
+-- what is in force, and the two places
 pub record Reckoning : Type 0 where
-  pub dAcross : ℕ
-  pub dDown : ℕ
   pub force : InForce
   pub across : Axis
   pub down : Axis
 
 -- a start, accepted or refused, begins it anew
-abbrev pub begun : (resolution : ℕ) → Reckoning
-begun resolution =
-    record {
-      dAcross = pick (eqb resolution 203) 203 300;
-      dDown = pick (eqb resolution 203) 200 300;
-      force = atStart;
-      across = origin;
-      down = origin;
-    }
+abbrev pub begun : StartSettings → Reckoning
+begun settings = record { force = atStart (keptBy settings); across = origin; down = origin }
 
--- what is in force after an event
-abbrev pub forceAfter : InForce → Event → InForce
-forceAfter f (done c told) = enforce f c
-forceAfter f (passed c reason) = f
-forceAfter f (inside c told) = enforceControl f c
-forceAfter f (automatic told) = enforceControl f Control.LineFeed
+-- what an event does
+abbrev pub changeBy : InForce → Event → Change
+changeBy f (done c n) = changeOf f c n
+changeBy f (passed c reason) = inForceOnly f
+changeBy f (inside c n) = controlChange f c n
+changeBy f (automatic n) = controlChange f Control.LineFeed n
 
--- an event's motion across and down
 abbrev pub acrossMotion : InForce → Event → Motion
-acrossMotion f (done c told) = acrossBy f c told
-acrossMotion f (passed c reason) = stays
-acrossMotion f (inside c told) = acrossByControl f c told
-acrossMotion f (automatic told) = acrossByControl f Control.LineFeed told
+acrossMotion f e = changeBy f e .across
 
 abbrev pub downMotion : InForce → Event → Motion
-downMotion f (done c told) = downBy f c told
-downMotion f (passed c reason) = stays
-downMotion f (inside c told) = downByControl f c told
-downMotion f (automatic told) = downByControl f Control.LineFeed told
+downMotion f e = changeBy f e .down
 
 abbrev pub reckon : Reckoning → Event → Reckoning
 reckon r e =
     record {
-      dAcross = r .dAcross;
-      dDown = r .dDown;
-      force = forceAfter (r .force) e;
+      force = changeBy (r .force) e .force;
       across = moved (r .across) (acrossMotion (r .force) e);
       down = moved (r .down) (downMotion (r .force) e);
     }
@@ -208,58 +184,30 @@ pub record Printed : Type 0 where
   pub advance : ℕ
   pub here : Reckoning
 
--- what a command prints
-pub data Prints : Type 0 where
-  letter : (byte : ℕ) → Prints
-  imageByte : Density → (byte : ℕ) → Prints
-  neither : Prints
+abbrev pub printedOf : Mark → (byte advance : ℕ) → Reckoning → Printed
+printedOf m b n r = record { mark = m; byte = b; advance = n; here = r }
 
-abbrev pub printing : Command → Prints
-printing (Command.Letter b) = letter b
-printing (Command.Control c b) = neither
-printing (Command.Escape b) = neither
-printing (Command.Unlisted b) = neither
-printing (Command.UnlistedEscape b) = neither
-printing Command.Reset = neither
-printing (Command.Mode c) = neither
-printing (Command.Parameter c n) = neither
-printing (Command.Feed n) = neither
-printing (Command.LeftMargin n) = neither
-printing (Command.RightMargin n) = neither
-printing (Command.PageLines n) = neither
-printing (Command.PageInches n) = neither
-printing (Command.Absolute a b) = neither
-printing (Command.Relative a b) = neither
-printing (Command.OpenImage d a b) = neither
-printing (Command.ImageByte d b) = imageByte d b
-printing (Command.OpenList k) = neither
-printing (Command.ListByte k b) = neither
-printing (Command.EndList k b) = neither
-
-abbrev pub printedBy : Reckoning → Prints → List Printed
-printedBy r (letter b) =
-    record { mark = Mark.Tx; byte = b; advance = advance (r .force .width); here = r } ∷ []
-printedBy r (imageByte d b) =
-    record { mark = Mark.Im; byte = b; advance = r .force .step; here = r } ∷ []
-printedBy r neither = []
+abbrev pub printedBy : Reckoning → Writing → List Printed
+printedBy r silent = []
+printedBy r (letter b n) = printedOf Mark.Tx b n r ∷ []
+printedBy r (imageByte b n) = printedOf Mark.Im b n r ∷ []
+printedBy r (feed pages) = []
+printedBy r clear = []
 
 abbrev pub printedAt : Reckoning → Event → List Printed
-printedAt r (done c told) = printedBy r (printing c)
-printedAt r (passed c reason) = []
-printedAt r (inside c told) = []
-printedAt r (automatic told) = []
+printedAt r e = printedBy r (changeBy (r .force) e .writing)
 
--- what happens over a list of calls: a start, with its resolution, or an event
+-- what happens over a list of calls: a start, with its settings, or an event
 pub data Occurrence : Type 0 where
-  start : (resolution : ℕ) → Occurrence
+  start : StartSettings → Occurrence
   event : Event → Occurrence
 
 abbrev pub reckonNext : Reckoning → Occurrence → Reckoning
-reckonNext r (start resolution) = begun resolution
+reckonNext r (start settings) = begun settings
 reckonNext r (event e) = reckon r e
 
 abbrev pub printedNext : Reckoning → Occurrence → List Printed
-printedNext r (start resolution) = []
+printedNext r (start settings) = []
 printedNext r (event e) = printedAt r e
 
 unfoldable pub printed : Reckoning → List Occurrence → List Printed
@@ -274,12 +222,12 @@ reckonAll r (o ∷ l) = reckonAll (reckonNext r o) l
 -- The motions of occurrences along an axis, each by what is in force then; a start sets both places to 0
 
 abbrev pub motionOf : (InForce → Event → Motion) → InForce → Occurrence → Motion
-motionOf m f (start resolution) = sets 0
+motionOf m f (start settings) = sets 0
 motionOf m f (event e) = m f e
 
 abbrev pub forceNext : InForce → Occurrence → InForce
-forceNext f (start resolution) = atStart
-forceNext f (event e) = forceAfter f e
+forceNext f (start settings) = atStart (keptBy settings)
+forceNext f (event e) = changeBy f e .force
 
 unfoldable pub motions : (InForce → Event → Motion) → InForce → List Occurrence → List Motion
 motions m f [] = []

@@ -5,15 +5,8 @@ use lib.ListN.{take}
 use mathlib.Core.List.{List}
 use Rattle.printer.specs.Tools.{pick}
 use Rattle.printer.specs.Units.{units}
-use Rattle.printer.specs.declared.settings.Pitch.{Pitch}
-use Rattle.printer.specs.declared.settings.Width.{Width}
-use Rattle.printer.specs.declared.settings.Emphasis.{Emphasis}
-use Rattle.printer.specs.declared.settings.Face.{Face}
-use Rattle.printer.specs.declared.settings.Paper.{Paper}
-use Rattle.printer.specs.declared.settings.Settings.{Settings}
-use Rattle.printer.specs.declared.state.Place.{Place}
-use Rattle.printer.specs.declared.stops.Columns.{Columns}
-use Rattle.printer.specs.declared.stops.Lines.{Lines}
+use Rattle.printer.specs.Widths.{advance, columnWidth}
+use Rattle.printer.specs.Types.{Emphasis, Face, Margins, Paper, Pitch, Place, Script, Settings, Setup, TabStops, Width}
 
 -- Parts
 
@@ -36,6 +29,13 @@ lineOf s = s .paper .line .0
 abbrev pub edgeOf : Settings → ℕ
 edgeOf s = pageOf s - skipOf s
 
+-- the advance, and the column width
+abbrev pub advanceOf : Settings → ℕ
+advanceOf s = advance (s .width)
+
+abbrev pub columnOf : Settings → ℕ
+columnOf s = columnWidth (s .width)
+
 -- the units of one step of ESC \
 abbrev pub relativeStep : Settings → ℕ
 relativeStep s = pick (s .draft) 30 20
@@ -50,282 +50,117 @@ abbrev pub at : ℕ → ℕ → Place
 at x y = record { across = units x; down = units y }
 
 -- the stops that are held
-abbrev pub columnsOf : Columns → List ℕ
-columnsOf c = take (c .count) (c .stops)
+abbrev pub heldIn : TabStops → List ℕ
+heldIn l = take (l .count) (l .stops)
 
-abbrev pub linesOf : Lines → List ℕ
-linesOf c = take (c .count) (c .stops)
+-- Makers, since a record is not changed in a part
 
--- Width with one part changed
+abbrev pub widthOf : Pitch → (spacing : ℕ) → (wide once reduced proportional : Bool) → Width
+widthOf p n w o r l = record { pitch = p; spacing = n; wide = w; wideonce = o; reduced = r; proportional = l }
 
-abbrev pub withPitch : Width → Pitch → Width
-withPitch w x =
-    record {
-      pitch = x;
-      spacing = w .spacing;
-      wide = w .wide;
-      wideonce = w .wideonce;
-      reduced = w .reduced;
-      proportional = w .proportional;
-    }
+abbrev pub emphasisOf : (bold doublestrike italic underline : Bool) → Emphasis
+emphasisOf b d i u = record { bold = b; doublestrike = d; italic = i; underline = u }
 
-abbrev pub withSpacing : Width → ℕ → Width
-withSpacing w x =
-    record {
-      pitch = w .pitch;
-      spacing = x;
-      wide = w .wide;
-      wideonce = w .wideonce;
-      reduced = w .reduced;
-      proportional = w .proportional;
-    }
+abbrev pub scriptOf : (up down : Bool) → Script
+scriptOf up down = record { superscript = up; subscript = down }
 
-abbrev pub withWide : Width → Bool → Width
-withWide w x =
-    record {
-      pitch = w .pitch;
-      spacing = w .spacing;
-      wide = x;
-      wideonce = w .wideonce;
-      reduced = w .reduced;
-      proportional = w .proportional;
-    }
+abbrev pub faceOf : (font country outline : ℕ) → (doubleheight italictable download : Bool) → Face
+faceOf f c o h i d = record { font = f; country = c; outline = o; doubleheight = h; italictable = i; download = d }
 
-abbrev pub withWideOnce : Width → Bool → Width
-withWideOnce w x =
-    record {
-      pitch = w .pitch;
-      spacing = w .spacing;
-      wide = w .wide;
-      wideonce = x;
-      reduced = w .reduced;
-      proportional = w .proportional;
-    }
+abbrev pub marginsOf : (left right : ℕ) → Margins
+marginsOf l r = record { left = units l; right = units r }
 
-abbrev pub withReduced : Width → Bool → Width
-withReduced w x =
-    record {
-      pitch = w .pitch;
-      spacing = w .spacing;
-      wide = w .wide;
-      wideonce = w .wideonce;
-      reduced = x;
-      proportional = w .proportional;
-    }
+abbrev pub paperOf : (page skip line : ℕ) → Paper
+paperOf p s l = record { page = units p; skip = units s; line = units l }
 
-abbrev pub withProportional : Width → Bool → Width
-withProportional w x =
-    record {
-      pitch = w .pitch;
-      spacing = w .spacing;
-      wide = w .wide;
-      wideonce = w .wideonce;
-      reduced = w .reduced;
-      proportional = x;
-    }
-
--- Emphasis with one part changed
-
-abbrev pub withBold : Emphasis → Bool → Emphasis
-withBold e x =
-    record { bold = x; doublestrike = e .doublestrike; italic = e .italic; underline = e .underline }
-
-abbrev pub withDoubleStrike : Emphasis → Bool → Emphasis
-withDoubleStrike e x = record { bold = e .bold; doublestrike = x; italic = e .italic; underline = e .underline }
-
-abbrev pub withItalic : Emphasis → Bool → Emphasis
-withItalic e x =
-    record { bold = e .bold; doublestrike = e .doublestrike; italic = x; underline = e .underline }
-
-abbrev pub withUnderline : Emphasis → Bool → Emphasis
-withUnderline e x = record { bold = e .bold; doublestrike = e .doublestrike; italic = e .italic; underline = x }
-
--- Face with one part changed
-
-abbrev pub withFont : Face → ℕ → Face
-withFont f x =
-    record {
-      font = x;
-      country = f .country;
-      outline = f .outline;
-      doubleheight = f .doubleheight;
-      italictable = f .italictable;
-      download = f .download;
-    }
-
-abbrev pub withCountry : Face → ℕ → Face
-withCountry f x =
-    record {
-      font = f .font;
-      country = x;
-      outline = f .outline;
-      doubleheight = f .doubleheight;
-      italictable = f .italictable;
-      download = f .download;
-    }
-
-abbrev pub withOutline : Face → ℕ → Face
-withOutline f x =
-    record {
-      font = f .font;
-      country = f .country;
-      outline = x;
-      doubleheight = f .doubleheight;
-      italictable = f .italictable;
-      download = f .download;
-    }
-
-abbrev pub withDoubleHeight : Face → Bool → Face
-withDoubleHeight f x =
-    record {
-      font = f .font;
-      country = f .country;
-      outline = f .outline;
-      doubleheight = x;
-      italictable = f .italictable;
-      download = f .download;
-    }
-
-abbrev pub withItalicTable : Face → Bool → Face
-withItalicTable f x =
-    record {
-      font = f .font;
-      country = f .country;
-      outline = f .outline;
-      doubleheight = f .doubleheight;
-      italictable = x;
-      download = f .download;
-    }
-
-abbrev pub withDownload : Face → Bool → Face
-withDownload f x =
-    record {
-      font = f .font;
-      country = f .country;
-      outline = f .outline;
-      doubleheight = f .doubleheight;
-      italictable = f .italictable;
-      download = x;
-    }
-
--- Paper with one part changed
-
-abbrev pub withSkip : Paper → ℕ → Paper
-withSkip q x = record { page = q .page; skip = units x; line = q .line }
-
-abbrev pub withLine : Paper → ℕ → Paper
-withLine q x = record { page = q .page; skip = q .skip; line = units x }
+abbrev pub settingsOf : Setup → Width → Emphasis → Script → Face → Margins → Paper → (draft upperprints : Bool) → Settings
+settingsOf a b c d e f g h i = record { setup = a; width = b; emphasis = c; script = d; face = e; margins = f; paper = g; draft = h; upperprints = i }
 
 -- Settings with one group changed
 
 abbrev pub withWidth : Settings → Width → Settings
-withWidth s x =
-    record {
-      setup = s .setup;
-      width = x;
-      emphasis = s .emphasis;
-      script = s .script;
-      face = s .face;
-      margins = s .margins;
-      paper = s .paper;
-      draft = s .draft;
-      upperprints = s .upperprints;
-    }
+withWidth s x = settingsOf (s .setup) x (s .emphasis) (s .script) (s .face) (s .margins) (s .paper) (s .draft) (s .upperprints)
 
 abbrev pub withEmphasis : Settings → Emphasis → Settings
-withEmphasis s x =
-    record {
-      setup = s .setup;
-      width = s .width;
-      emphasis = x;
-      script = s .script;
-      face = s .face;
-      margins = s .margins;
-      paper = s .paper;
-      draft = s .draft;
-      upperprints = s .upperprints;
-    }
+withEmphasis s x = settingsOf (s .setup) (s .width) x (s .script) (s .face) (s .margins) (s .paper) (s .draft) (s .upperprints)
 
-abbrev pub withScript : Settings → Bool → Bool → Settings
-withScript s up down =
-    record {
-      setup = s .setup;
-      width = s .width;
-      emphasis = s .emphasis;
-      script = record { superscript = up; subscript = down };
-      face = s .face;
-      margins = s .margins;
-      paper = s .paper;
-      draft = s .draft;
-      upperprints = s .upperprints;
-    }
+abbrev pub withScript : Settings → (up down : Bool) → Settings
+withScript s up down = settingsOf (s .setup) (s .width) (s .emphasis) (scriptOf up down) (s .face) (s .margins) (s .paper) (s .draft) (s .upperprints)
 
 abbrev pub withFace : Settings → Face → Settings
-withFace s x =
-    record {
-      setup = s .setup;
-      width = s .width;
-      emphasis = s .emphasis;
-      script = s .script;
-      face = x;
-      margins = s .margins;
-      paper = s .paper;
-      draft = s .draft;
-      upperprints = s .upperprints;
-    }
+withFace s x = settingsOf (s .setup) (s .width) (s .emphasis) (s .script) x (s .margins) (s .paper) (s .draft) (s .upperprints)
 
-abbrev pub withMargins : Settings → ℕ → ℕ → Settings
-withMargins s left right =
-    record {
-      setup = s .setup;
-      width = s .width;
-      emphasis = s .emphasis;
-      script = s .script;
-      face = s .face;
-      margins = record { left = units left; right = units right };
-      paper = s .paper;
-      draft = s .draft;
-      upperprints = s .upperprints;
-    }
+abbrev pub withMargins : Settings → (left right : ℕ) → Settings
+withMargins s left right = settingsOf (s .setup) (s .width) (s .emphasis) (s .script) (s .face) (marginsOf left right) (s .paper) (s .draft) (s .upperprints)
 
-abbrev pub withPaper : Settings → Paper → Settings
-withPaper s x =
-    record {
-      setup = s .setup;
-      width = s .width;
-      emphasis = s .emphasis;
-      script = s .script;
-      face = s .face;
-      margins = s .margins;
-      paper = x;
-      draft = s .draft;
-      upperprints = s .upperprints;
-    }
+abbrev pub withPaper : Settings → (page skip line : ℕ) → Settings
+withPaper s page skip line = settingsOf (s .setup) (s .width) (s .emphasis) (s .script) (s .face) (s .margins) (paperOf page skip line) (s .draft) (s .upperprints)
 
 abbrev pub withDraft : Settings → Bool → Settings
-withDraft s x =
-    record {
-      setup = s .setup;
-      width = s .width;
-      emphasis = s .emphasis;
-      script = s .script;
-      face = s .face;
-      margins = s .margins;
-      paper = s .paper;
-      draft = x;
-      upperprints = s .upperprints;
-    }
+withDraft s x = settingsOf (s .setup) (s .width) (s .emphasis) (s .script) (s .face) (s .margins) (s .paper) x (s .upperprints)
 
 abbrev pub withUpperPrints : Settings → Bool → Settings
-withUpperPrints s x =
-    record {
-      setup = s .setup;
-      width = s .width;
-      emphasis = s .emphasis;
-      script = s .script;
-      face = s .face;
-      margins = s .margins;
-      paper = s .paper;
-      draft = s .draft;
-      upperprints = x;
-    }
+withUpperPrints s x = settingsOf (s .setup) (s .width) (s .emphasis) (s .script) (s .face) (s .margins) (s .paper) (s .draft) x
+
+-- A width with one part changed
+
+abbrev pub withPitch : Width → Pitch → Width
+withPitch w x = widthOf x (w .spacing) (w .wide) (w .wideonce) (w .reduced) (w .proportional)
+
+abbrev pub withSpacing : Width → ℕ → Width
+withSpacing w x = widthOf (w .pitch) x (w .wide) (w .wideonce) (w .reduced) (w .proportional)
+
+abbrev pub withDoubling : Width → (wide once : Bool) → Width
+withDoubling w wide once = widthOf (w .pitch) (w .spacing) wide once (w .reduced) (w .proportional)
+
+abbrev pub withReduced : Width → Bool → Width
+withReduced w x = widthOf (w .pitch) (w .spacing) (w .wide) (w .wideonce) x (w .proportional)
+
+abbrev pub withProportional : Width → Bool → Width
+withProportional w x = widthOf (w .pitch) (w .spacing) (w .wide) (w .wideonce) (w .reduced) x
+
+-- SO begins or ends
+abbrev pub withWideOnce : Settings → Bool → Settings
+withWideOnce s x = withWidth s (withDoubling (s .width) (s .width .wide) x)
+
+-- Settings with one part of a group changed
+
+abbrev pub withBold : Settings → Bool → Settings
+withBold s x = let e = s .emphasis in withEmphasis s (emphasisOf x (e .doublestrike) (e .italic) (e .underline))
+
+abbrev pub withDoubleStrike : Settings → Bool → Settings
+withDoubleStrike s x = let e = s .emphasis in withEmphasis s (emphasisOf (e .bold) x (e .italic) (e .underline))
+
+abbrev pub withItalic : Settings → Bool → Settings
+withItalic s x = let e = s .emphasis in withEmphasis s (emphasisOf (e .bold) (e .doublestrike) x (e .underline))
+
+abbrev pub withUnderline : Settings → Bool → Settings
+withUnderline s x = let e = s .emphasis in withEmphasis s (emphasisOf (e .bold) (e .doublestrike) (e .italic) x)
+
+abbrev pub withFont : Settings → ℕ → Settings
+withFont s x = let f = s .face in withFace s (faceOf x (f .country) (f .outline) (f .doubleheight) (f .italictable) (f .download))
+
+abbrev pub withCountry : Settings → ℕ → Settings
+withCountry s x = let f = s .face in withFace s (faceOf (f .font) x (f .outline) (f .doubleheight) (f .italictable) (f .download))
+
+abbrev pub withOutline : Settings → ℕ → Settings
+withOutline s x = let f = s .face in withFace s (faceOf (f .font) (f .country) x (f .doubleheight) (f .italictable) (f .download))
+
+abbrev pub withDoubleHeight : Settings → Bool → Settings
+withDoubleHeight s x = let f = s .face in withFace s (faceOf (f .font) (f .country) (f .outline) x (f .italictable) (f .download))
+
+abbrev pub withItalicTable : Settings → Bool → Settings
+withItalicTable s x = let f = s .face in withFace s (faceOf (f .font) (f .country) (f .outline) (f .doubleheight) x (f .download))
+
+abbrev pub withDownload : Settings → Bool → Settings
+withDownload s x = let f = s .face in withFace s (faceOf (f .font) (f .country) (f .outline) (f .doubleheight) (f .italictable) x)
+
+-- ESC C: the page length, and no skip
+abbrev pub withPage : Settings → ℕ → Settings
+withPage s n = withPaper s n 0 (lineOf s)
+
+abbrev pub withSkip : Settings → ℕ → Settings
+withSkip s n = withPaper s (pageOf s) n (lineOf s)
+
+abbrev pub withLine : Settings → ℕ → Settings
+withLine s n = withPaper s (pageOf s) (skipOf s) n

@@ -4,10 +4,7 @@ use mathlib.Core.List.{List, [], _∷_, _++_}
 use Rattle.printer.specs.Framing.{frame}
 use Rattle.printer.specs.Performing.{Event, performAll, recordsAll}
 use Rattle.printer.specs.Deciding.{decide}
-use Rattle.printer.specs.declared.commands.Frame.{Frame}
-use Rattle.printer.specs.declared.commands.Waiting.{Waiting}
-use Rattle.printer.specs.declared.records.Record.{Record}
-use Rattle.printer.specs.declared.state.Printer.{Printer}
+use Rattle.printer.specs.Types.{Frame, Waiting, Record, Printer}
 
 abbrev pub frameAt : Printer → ℕ → Frame
 frameAt p b = frame (p .settings .upperprints) (p .waiting) b

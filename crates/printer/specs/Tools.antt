@@ -29,8 +29,13 @@ pub record Order : Type 0 where
   pub low : ℕ
   pub high : ℕ
 
+infix 50 _upTo_
 abbrev pub _upTo_ : ℕ → ℕ → Order
 _upTo_ a b = record { low = a; high = b }
+
+-- a test as an order: it holds just if the test is true
+abbrev pub passes : Bool → Order
+passes t = (pick t 0 1 upTo 0)
 
 -- all the orders of a list hold: as a test, and as a fact
 abbrev pub holds : List Order → Bool
@@ -46,10 +51,10 @@ unfoldable pub lookup : {A : Type 0} → List (ℕ × A) → A → ℕ → A
 lookup [] d b = d
 lookup (e ∷ l) d b = pick (eqb b (e .0)) (e .1) (lookup l d b)
 
--- n is among the numbers of a list
-unfoldable pub among : List ℕ → ℕ → Bool
-among [] n = false
-among (m ∷ l) n = either (eqb n m) (among l n)
+-- a table of the elements of a list, each beside its code
+unfoldable pub coded : {A : Type 0} → (A → ℕ) → List A → List (ℕ × A)
+coded f [] = []
+coded f (a ∷ l) = (f a, a) ∷ coded f l
 
 -- P holds of each element
 abbrev pub Each : {A : Type 0} → (A → Type 0) → List A → Type 0

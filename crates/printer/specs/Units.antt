@@ -1,8 +1,6 @@
 -- Document 01, 'Units, page and power-on': units, dots, and the rounding rule between them.
 use Prim.Native.Nat.{ℕ, _+_, _*_, _/_}
-use Rattle.printer.specs.declared.units.Units.{Units}
-use Rattle.printer.specs.declared.units.Dots.{Dots}
-use Rattle.printer.specs.declared.units.Resolution.{Resolution}
+use Rattle.printer.specs.Types.{Units, Dots, Resolution}
 
 -- one unit is 1/3600 inch
 abbrev pub units : ℕ → Units
@@ -29,3 +27,14 @@ columnDots r n = dots (perInchAcross r) n
 
 abbrev pub rowDots : Resolution → ℕ → Dots
 rowDots r n = dots (perInchDown r) n
+
+-- the width that is printed on: 80 columns at 10 cpi
+abbrev pub paperWidth : ℕ
+paperWidth = 28800
+
+-- the shortest page, which also remains above a perforation skip, and the longest
+abbrev pub shortestPage : ℕ
+shortestPage = 3600
+
+abbrev pub longestPage : ℕ
+longestPage = 79200

@@ -2,9 +2,7 @@
 use Prim.Native.Nat.{ℕ, _+_, _*_}
 use mathlib.Core.Bool.{Bool, true, false}
 use Rattle.printer.specs.Tools.{pick, either}
-use Rattle.printer.specs.declared.commands.Density.{Density}
-use Rattle.printer.specs.declared.settings.Pitch.{Pitch}
-use Rattle.printer.specs.declared.settings.Width.{Width}
+use Rattle.printer.specs.Types.{Density, Pitch, Width}
 
 -- the base: pitch, reduced, proportional
 abbrev pub base : Pitch → Bool → Bool → ℕ

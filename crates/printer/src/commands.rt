@@ -15,40 +15,51 @@ pub enum Control {
     Dc4,
 }
 
-// The escapes without an argument that change a setting: ESC 0 2 O SO SI P M g E F G H 4 5 T 6 7.
+// The escapes without an argument that change more than how a record looks: ESC 0 2 O P M g 6 7.
 pub enum Mode {
     EighthInchLine,
     SixthInchLine,
     NoSkip,
-    WideOnce,
-    Reduced,
     Pitch(Pitch),
-    Bold(bool),
-    DoubleStrike(bool),
-    Italic(bool),
-    NoScript,
     UpperPrints(bool),
 }
 
-// The escapes with one argument byte that change a setting: ESC 3 A + N SP p S x W w - % t R q k !.
+// The escapes with one argument byte that do: ESC 3 A + SP p x W !.
 pub enum Parameter {
     Line180ths,
     Line60ths,
     Line360ths,
-    Skip,
     Spacing,
     Proportional,
-    Script,
     Quality,
     DoubleWidth,
-    DoubleHeight,
-    Underline,
-    Download,
-    CodeTable,
-    Country,
-    Outline,
-    Font,
     Master,
+}
+
+// The escapes without an argument that only show on a letter's record: ESC E F G H 4 5 T.
+pub enum Switch {
+    Bold(bool),
+    DoubleStrike(bool),
+    Italic(bool),
+    NoScript,
+}
+
+// The escapes with one argument byte that only show on a letter's record: ESC S - w q t k R %.
+pub enum Choice {
+    Script,
+    Underline,
+    DoubleHeight,
+    Outline,
+    CodeTable,
+    Font,
+    Country,
+    Download,
+}
+
+// What changes only how a letter's record looks.
+pub enum Look {
+    Switch(Switch),
+    Choice(Choice, u8),
 }
 
 // The image commands: ESC K L Y Z.
@@ -65,72 +76,96 @@ pub enum Tabs {
     Vertical,
 }
 
+// The margins: ESC l, ESC Q.
+pub enum Side {
+    Left,
+    Right,
+}
+
+// The page lengths: ESC C n, ESC C 0 n.
+pub enum Page {
+    Lines(u8),
+    Inches(u8),
+}
+
+// The moves by two argument bytes: ESC $, ESC \.
+pub enum Move {
+    Absolute,
+    Relative,
+}
+
+// The bytes of a stop list: its escape's second byte, one that does not end it, and the one that does.
+pub enum ListPart {
+    Open,
+    Byte(u8),
+    End(u8),
+}
+
+// What is passed over in every state.
+pub enum Refused {
+    // A control byte that is not listed, or 7Fh.
+    Byte(u8),
+    // An escape's second byte that is not listed.
+    Escape(u8),
+}
+
+// What is done and changes nothing.
+pub enum Silent {
+    // The byte that begins an escape.
+    Escape(u8),
+}
+
 // A whole command, with its bytes as received.
 pub enum Command {
     // A byte that prints.
     Letter(u8),
     // A control byte that is a command; the byte is kept as it came, since 80h more may stand for it.
     Control(Control, u8),
-    // The byte that begins an escape.
-    Escape(u8),
-    // Any other control byte, or 7Fh.
-    Unlisted(u8),
-    // An escape's second byte that is none of those listed.
-    UnlistedEscape(u8),
+    Refused(Refused),
+    Silent(Silent),
     // ESC @.
     Reset,
-    // The other escapes without an argument.
+    // The escapes that change a setting: without an argument, with one, and those that only show on a record.
     Mode(Mode),
-    // The escapes with one argument.
     Parameter(Parameter, u8),
+    Look(Look),
+    // ESC N n.
+    Skip(u8),
     // ESC J n.
     Feed(u8),
-    // ESC l n.
-    LeftMargin(u8),
-    // ESC Q n.
-    RightMargin(u8),
-    // ESC C n.
-    PageLines(u8),
-    // ESC C 0 n.
-    PageInches(u8),
-    // ESC $ a b.
-    Absolute(u8, u8),
-    // ESC \ a b.
-    Relative(u8, u8),
+    // ESC l n, ESC Q n.
+    Margin(Side, u8),
+    // ESC C n, ESC C 0 n.
+    Page(Page),
+    // ESC $ a b, ESC \ a b.
+    Move(Move, u8, u8),
     // ESC K, L, Y, Z a b.
     OpenImage(Density, u8, u8),
     // A byte of image data.
     ImageByte(Density, u8),
-    // ESC D, ESC B.
-    OpenList(Tabs),
-    // A byte of a stop list that does not end it.
-    ListByte(Tabs, u8),
-    // The byte that ends a stop list.
-    EndList(Tabs, u8),
+    // ESC D, ESC B, and the bytes of their lists.
+    List(Tabs, ListPart),
 }
 
 // The escapes with one argument.
 pub enum One {
     Parameter(Parameter),
+    Choice(Choice),
+    Skip,
     Feed,
-    LeftMargin,
-    RightMargin,
+    Margin(Side),
 }
 
 // The escapes with two arguments.
 pub enum Two {
-    Absolute,
-    Relative,
+    Move(Move),
     Image(Density),
 }
 
-// What the reader is still waiting for.
-pub enum Waiting {
-    Nothing,
-    // An escape's second byte.
-    SecondByte,
+// An escape with arguments still to come, and those so far.
+pub enum Begun {
     // The one argument.
-    Argument(One),
+    One(One),
     // The argument of ESC C.
     PageLength,
     // The argument of ESC C 0.
@@ -139,6 +174,15 @@ pub enum Waiting {
     FirstOf(Two),
     // The second of two, after the first.
     SecondOf(Two, u8),
+}
+
+// What the reader is still waiting for.
+pub enum Waiting {
+    Nothing,
+    // An escape's second byte.
+    SecondByte,
+    // The arguments of an escape.
+    Arguments(Begun),
     // A byte of a stop list, after the byte before (0 at its beginning).
     StopList(Tabs, u8),
     // So many bytes of image data.
@@ -154,11 +198,11 @@ pub enum First {
 
 // What an escape's second byte is.
 pub enum Second {
+    Control(Control),
     Reset,
     Mode(Mode),
-    One(One),
-    Page,
-    Two(Two),
+    Switch(Switch),
+    Begins(Begun),
     List(Tabs),
     Unlisted,
 }

@@ -1,4 +1,4 @@
-// The printer that the reader stands in for: its types, and what is computed of its state alone: rounding, widths, power-on, bytes.
+// The printer that the reader stands in for: its types, and its state at power-on.
 pub mod answers;
 pub mod commands;
 pub mod records;
@@ -6,4 +6,3 @@ pub mod settings;
 pub mod state;
 pub mod stops;
 pub mod units;
-pub mod widths;

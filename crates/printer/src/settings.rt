@@ -1,9 +1,12 @@
-// The settings in force, in groups, and the edge that follows from them.
+// The settings in force, in groups.
 use crate::units::Resolution;
 use crate::units::Units;
-ghost use mathlib.Core.Path.{_≡_};
-ghost use Rattle.printer.specs.Settings.{edgeOf};
-ghost use Rattle.printer.specs.Units.{units};
+
+// What a start is asked for, as received.
+pub struct StartSettings {
+    pub resolution: u32,
+    pub autofeed: bool,
+}
 
 // What ESC @ keeps: the settings of the start.
 pub struct Setup {
@@ -72,19 +75,4 @@ pub struct Settings {
     pub paper: Paper,
     pub draft: bool,
     pub upperprints: bool,
-}
-
-impl Settings {
-    // The edge: page length less perforation skip.
-    pub fn edge(self) -> Units
-        ensures { λ r. ⌜ r ≡ units (edgeOf self) ⌝ }
-    {
-        let page = self.paper.page.0;
-        let skip = self.paper.skip.0;
-        if skip <= page {
-            Units(page - skip)
-        } else {
-            Units(0)
-        }
-    }
 }

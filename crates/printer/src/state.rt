@@ -9,12 +9,11 @@ use crate::settings::Script;
 use crate::settings::Settings;
 use crate::settings::Setup;
 use crate::settings::Width;
-use crate::stops::Columns;
-use crate::stops::Lines;
 use crate::stops::Stops;
+use crate::stops::TabStops;
 use crate::units::Units;
 ghost use mathlib.Core.Path.{_≡_};
-ghost use Rattle.printer.specs.PowerOn.{powerOn, powerOnSettings, powerOnStops, noColumns, noLines};
+ghost use Rattle.printer.specs.PowerOn.{powerOn, powerOnSettings, powerOnStops, noStops};
 
 pub struct Place {
     pub across: Units,
@@ -86,25 +85,18 @@ fn power_on_settings(setup: Setup) -> Settings
     }
 }
 
-fn no_columns() -> Columns
-    ensures { λ r. ⌜ r ≡ noColumns ⌝ }
+fn no_stops() -> TabStops
+    ensures { λ r. ⌜ r ≡ noStops ⌝ }
 {
-    let stops = [0; Columns::MOST];
-    Columns { stops, count: 0 }
-}
-
-fn no_lines() -> Lines
-    ensures { λ r. ⌜ r ≡ noLines ⌝ }
-{
-    let stops = [0; Lines::MOST];
-    Lines { stops, count: 0 }
+    let stops = [0; TabStops::ROOM];
+    TabStops { stops, count: 0 }
 }
 
 // Horizontal stops at columns 8, 16 .. 72.
-fn power_on_columns() -> Columns
+fn power_on_columns() -> TabStops
     ensures { λ r. ⌜ r ≡ powerOnStops .columns ⌝ }
 {
-    let mut stops = [0; Columns::MOST];
+    let mut stops = [0; TabStops::ROOM];
     stops[0] = 8;
     stops[1] = 16;
     stops[2] = 24;
@@ -114,7 +106,7 @@ fn power_on_columns() -> Columns
     stops[6] = 56;
     stops[7] = 64;
     stops[8] = 72;
-    Columns { stops, count: 9 }
+    TabStops { stops, count: 9 }
 }
 
 // Vertical stops never set, and none being gathered.
@@ -123,10 +115,9 @@ fn power_on_stops() -> Stops
 {
     Stops {
         columns: power_on_columns(),
-        lines: no_lines(),
+        lines: no_stops(),
         lineset: false,
-        gatheredcolumns: no_columns(),
-        gatheredlines: no_lines(),
+        gathered: no_stops(),
     }
 }
 

@@ -1,38 +1,27 @@
 // Tab stops: those in force, and those being gathered.
+use crate::units::Units;
 
-// Horizontal stops: columns. The first `count` are held.
-pub struct Columns {
-    pub stops: [u8; 32],
-    pub count: usize,
-}
-
-// Vertical stops: distances from the top, in units. The first `count` are held.
-pub struct Lines {
-    pub stops: [u32; 16],
-    pub count: usize,
+// A list of stops: columns, or distances from the top in units. The first `count` are held.
+pub struct TabStops {
+    pub stops: [u32; TabStops::ROOM],
+    pub count: u32,
 }
 
 // `lineset` tells vertical stops that were set, though perhaps to none, from those never set.
 pub struct Stops {
-    pub columns: Columns,
-    pub lines: Lines,
+    pub columns: TabStops,
+    pub lines: TabStops,
     pub lineset: bool,
-    pub gatheredcolumns: Columns,
-    pub gatheredlines: Lines,
+    pub gathered: TabStops,
 }
 
 // What a search among stops finds: the stop's number, counted from 1, and where it is.
 pub enum Stop {
-    Found(usize, u32),
+    Found(u32, Units),
     Missing,
 }
 
-impl Columns {
-    // How many stops there is room for.
-    pub const MOST: usize = 32;
-}
-
-impl Lines {
-    // How many stops there is room for.
-    pub const MOST: usize = 16;
+impl TabStops {
+    // How many stops an array has room for.
+    pub const ROOM: usize = 32;
 }

@@ -4,11 +4,9 @@ use Rattle.printer.proofs.state.power_on_stops.Statement.{statement}
 use Rattle.printer.proofs.state.power_on_stops.Tie as tie
 
 returns : tie.Need-returns
-returns c =
-    let b = c .before .before in
-    simp (c .no-lines2 .ensures, c .before .no-columns .ensures, b .no-lines .ensures, b .before .power-on-columns .ensures)
+returns c = simp (c .no-stops2 .ensures, c .before .no-stops .ensures, c .before .before .power-on-columns .ensures)
 
 pub power-on-stops-spec : {M : Type 1} → statement M
 power-on-stops-spec =
     tie.close
-    (tie.spec (λ c κs. search needs) (λ c κs. search needs) (λ c κs. search needs) (λ c κs. search needs) returns)
+    (tie.spec (λ c κs. search needs) (λ c κs. search needs) (λ c κs. search needs) returns)
