@@ -8,9 +8,10 @@ use native.Mathlib.Omega.{arith}
 use borrow.Author.Tests.{leb-true, leb-false, le-leb, lt-leb}
 use lib.Dec.{leb, eqb, leb·suc-zero, eqb·suc-zero}
 use lib.ListN.{length, take, drop, getD, length-take, drop-of-length-le}
-use lib.Seq.{drop-cons, getD-take, length-take-le}
+use lib.Seq.{drop-cons, getD-take}
 use Rattle.printer.specs.Tools.{pick, holds}
 use Rattle.printer.specs.Bounds.{ascending, listBounds, lastOf}
+use Rattle.printer.specs.declared.stops.TabStops.{TabStops}
 
 -- a test as an order is the test
 pub passing : (t : Bool) → leb (pick t 0 1) 0 ≡ t
@@ -28,62 +29,61 @@ module _ (least skip page : ℕ) (some : 0 < least) where
 
 -- A loop over the stops that are held: those left, after those passed, are within the bounds just if all are
 
-pub record Left (most limit : ℕ) (stops : List ℕ) (count last i : ℕ) : Type 0 where
-  pub room : length stops ≡ most
-  pub few : count ≤ most
-  pub passed : i ≤ count
-  pub same :
-      holds (listBounds most limit count stops) ≡ holds (ascending limit last (drop i (take count stops)))
+abbrev bounded : (most limit : ℕ) (stops : List ℕ) (count : ℕ) → Bool
+bounded most limit stops count = holds (listBounds most limit (record { stops = stops; count = count }))
 
-pub begins : {most limit : ℕ} {stops : List ℕ} {count : ℕ} → length stops ≡ most → count ≤ most
-    → Left most limit stops count 0 0
-begins {most} {limit} {stops} {count} e h =
-    record { room = e; few = h; passed = omega arith; same = rw (le-leb count most h) }
+pub record Left (most limit : ℕ) (stops : List ℕ) (count end last i : ℕ) : Type 0 where
+  pub held : end ≡ min count (length stops)
+  pub passed : i ≤ end
+  pub same : bounded most limit stops count ≡ holds (ascending limit last (drop i (take count stops)))
 
-module _ {most limit : ℕ} {stops : List ℕ} {count last i : ℕ} where
-  pub ends : Left most limit stops count last i → count ≤ i → true ≡ holds (listBounds most limit count stops)
-  unfolding ascending
-  ends v h =
-      sym (v .same ∙ rw (drop-of-length-le (take count stops) {i = i} (simp length-take (omega arith))))
+pub too-many : (most limit : ℕ) (stops : List ℕ) (count : ℕ) → most < count → false ≡ bounded most limit stops count
+too-many most limit stops count h = rw (lt-leb count most h)
 
-  one : Left most limit stops count last i → i < count
-      → drop i (take count stops) ≡ getD stops i 0 ∷ drop (i + 1) (take count stops)
-  one v h =
-      let e : length (take count stops) ≡ count = length-take-le count stops (omega arith) in
-      let q : i < length (take count stops) = omega arith in
-      drop-cons (take count stops) i 0 q ∙ rw (add-one, getD-take count stops i 0 h)
+module _ {most limit : ℕ} {stops : List ℕ} {count end : ℕ} where
+  pub begins : count ≤ most → end ≡ min count (length stops) → Left most limit stops count end 0 0
+  begins h e = record { held = e; passed = omega arith; same = rw (le-leb count most h) }
 
-  pub too-low : Left most limit stops count last i → i < count → getD stops i 0 ≤ last
-      → false ≡ holds (listBounds most limit count stops)
-  unfolding ascending
-  too-low v h k = sym (v .same ∙ simp (one v h, lt-leb (suc last) (getD stops i 0) (omega arith)))
+  module _ {last i : ℕ} (v : Left most limit stops count end last i) where
+    pub ends : end ≤ i → true ≡ bounded most limit stops count
+    unfolding ascending
+    ends h =
+        sym (v .same ∙ rw (drop-of-length-le (take count stops) {i = i} (simp length-take (omega (arith, v .held)))))
 
-  pub too-high : Left most limit stops count last i → i < count → last < getD stops i 0 → limit < getD stops i 0
-      → false ≡ holds (listBounds most limit count stops)
-  unfolding ascending
-  too-high v h k g =
-      sym (v .same ∙ simp (one v h, le-leb (suc last) (getD stops i 0) k, lt-leb (getD stops i 0) limit g))
+    module _ (h : i < end) where
+      one : drop i (take count stops) ≡ getD stops i 0 ∷ drop (i + 1) (take count stops)
+      one =
+          let k : i < count = omega (arith, v .held) in
+          let q : i < length (take count stops) = simp length-take (omega (arith, v .held)) in
+          drop-cons (take count stops) i 0 q ∙ rw (add-one, getD-take count stops i 0 k)
 
-  pub goes-on : Left most limit stops count last i → i < count → last < getD stops i 0 → getD stops i 0 ≤ limit
-      → Left most limit stops count (getD stops i 0) (i + 1)
-  unfolding ascending
-  goes-on v h k g =
-      record {
-        room = v .room;
-        few = v .few;
-        passed = omega arith;
-        same = v .same ∙ simp (one v h, le-leb (suc last) (getD stops i 0) k, le-leb (getD stops i 0) limit g);
-      }
+      pub too-low : getD stops i 0 ≤ last → false ≡ bounded most limit stops count
+      unfolding ascending
+      too-low k = sym (v .same ∙ simp (one, lt-leb (suc last) (getD stops i 0) (omega arith)))
 
-pub too-many : (most limit count : ℕ) (stops : List ℕ) → most < count
-    → false ≡ holds (listBounds most limit count stops)
-too-many most limit count stops h = rw (lt-leb count most h)
+      pub too-high : last < getD stops i 0 → limit < getD stops i 0 → false ≡ bounded most limit stops count
+      unfolding ascending
+      too-high k g = sym (v .same ∙ simp (one, le-leb (suc last) (getD stops i 0) k, lt-leb (getD stops i 0) limit g))
+
+      pub goes-on : last < getD stops i 0 → getD stops i 0 ≤ limit
+          → Left most limit stops count end (getD stops i 0) (i + 1)
+      unfolding ascending
+      goes-on k g =
+          record {
+            held = v .held;
+            passed = omega arith;
+            same = v .same ∙ simp (one, le-leb (suc last) (getD stops i 0) k, le-leb (getD stops i 0) limit g);
+          }
 
 -- with no room for a stop
-pub none-held : (limit count : ℕ) (stops : List ℕ) → eqb count 0 ≡ holds (listBounds 0 limit count stops)
+
+none-by : (limit count : ℕ) (stops : List ℕ) → eqb count 0 ≡ bounded 0 limit stops count
 unfolding ascending
-none-held limit zero stops = refl
-none-held limit (suc n) stops = simp (eqb·suc-zero n, leb·suc-zero n)
+none-by limit zero stops = refl
+none-by limit (suc n) stops = simp (eqb·suc-zero n, leb·suc-zero n)
+
+pub none-held : (limit : ℕ) (l : TabStops) → eqb (l .count) 0 ≡ holds (listBounds 0 limit l)
+none-held limit l = none-by limit (l .count) (l .stops)
 
 -- The last stop that is held
 
@@ -91,6 +91,10 @@ none-taken : (count : ℕ) (l : List ℕ) → min count (length l) ≡ 0 → tak
 none-taken zero l e = refl
 none-taken (suc n) [] e = refl
 none-taken (suc n) (m ∷ l) e = absurd (omega arith)
+
+pub none-last : (n count : ℕ) (l : List ℕ) → min count (length l) ≡ 0 → n ≡ lastOf n (take count l)
+unfolding lastOf
+none-last n count l e = rw (none-taken count l e)
 
 pub last-held : (n : ℕ) (l : List ℕ) (count k : ℕ) → min count (length l) ≡ suc k
     → getD l k 0 ≡ lastOf n (take count l)

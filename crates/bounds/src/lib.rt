@@ -1,17 +1,19 @@
 // What holds of a state at every moment: the test behind the answer that a state is refused.
 mod lists;
 
+use measures::paper;
+use measures::stops;
 use printer::commands::Tabs;
 use printer::commands::Waiting;
 use printer::settings::Settings;
 use printer::state::Place;
 use printer::state::Printer;
 use printer::stops::Stops;
+use printer::stops::TabStops;
 ghost use mathlib.Core.Path.{_≡_};
-ghost use Prim.Native.Nat.{_*_};
-ghost use lib.Dec.{leb};
-ghost use Rattle.printer.specs.Bounds.{settingsBounds, placeBounds, columnBounds, lineBounds, gatheringBounds, waitingBounds, accepted};
-ghost use Rattle.printer.specs.Deciding.{countries};
+ghost use Rattle.printer.specs.Bounds.{settingsBounds, placeBounds, lastStop, listBounds, columnBounds, lineBounds, gatheringBounds, waitingBounds, accepted};
+ghost use Rattle.printer.specs.Deciding.{mostStops};
+ghost use Rattle.printer.specs.Escapes.{countries};
 ghost use Rattle.printer.specs.Tools.{holds};
 
 // The countries that ESC R may name.
@@ -27,7 +29,7 @@ fn settings_accepted(s: Settings) -> bool
     let left = s.margins.left.0;
     let right = s.margins.right.0;
     let page = s.paper.page.0;
-    let edge = s.edge().0;
+    let edge = paper::edge(s).0;
     let line = s.paper.line.0;
     (left < right)
         & (right <= Printer::WIDTH.0)
@@ -45,17 +47,34 @@ fn place_accepted(s: Settings, x: Place) -> bool
 {
     let left = s.margins.left.0;
     let right = s.margins.right.0;
-    let edge = s.edge().0;
+    let edge = paper::edge(s).0;
     let across = x.across.0;
     let down = x.down.0;
     (left <= across) & (across <= right) & (down < edge)
+}
+
+// The last stop of a kind that there may be.
+fn last_stop(k: Tabs) -> u32
+    ensures { λ r. ⌜ r ≡ lastStop k ⌝ }
+{
+    match k {
+        Tabs::Horizontal => 255,
+        Tabs::Vertical => Printer::MOST_PAGE.0 - 1,
+    }
+}
+
+// Whether a list obeys the bounds of its kind.
+fn list_accepted(list: TabStops, k: Tabs) -> bool
+    ensures { λ r. ⌜ r ≡ holds (listBounds (mostStops k) (lastStop k) list) ⌝ }
+{
+    lists::ascend(list, stops::most(k), last_stop(k))
 }
 
 fn columns_accepted(t: Stops) -> bool
     ensures { λ r. ⌜ r ≡ holds (columnBounds t) ⌝ }
 {
     let columns = t.columns;
-    lists::columns_ascend(columns)
+    list_accepted(columns, Tabs::Horizontal)
 }
 
 // Vertical stops: none if they were never set.
@@ -64,29 +83,17 @@ fn lines_accepted(t: Stops) -> bool
 {
     let lines = t.lines;
     if t.lineset {
-        return lists::lines_ascend(lines);
+        return list_accepted(lines, Tabs::Vertical);
     }
     lines.count == 0
 }
 
-// Whether `byte` lines reach down to a stop.
-fn reaches(byte: u8, line: u32, stop: u32) -> bool
-    ensures { λ r. ⌜ r ≡ leb stop (byte * line) ⌝ }
-{
-    stop as u64 <= byte as u64 * line as u64
-}
-
 // A list being gathered: its last byte, made a stop, is not below its last stop.
-fn gathering_accepted(s: Settings, t: Stops, tabs: Tabs, byte: u8) -> bool
-    ensures { λ r. ⌜ r ≡ holds (gatheringBounds s t tabs byte) ⌝ }
+fn gathering_accepted(s: Settings, t: Stops, k: Tabs, byte: u8) -> bool
+    ensures { λ r. ⌜ r ≡ holds (gatheringBounds s t k byte) ⌝ }
 {
-    let columns = t.gatheredcolumns;
-    let lines = t.gatheredlines;
-    let line = s.paper.line.0;
-    match tabs {
-        Tabs::Horizontal => (lists::last_column(columns) <= byte) & lists::columns_ascend(columns),
-        Tabs::Vertical => reaches(byte, line, lists::last_line(lines)) & lists::lines_ascend(lines),
-    }
+    let list = t.gathered;
+    (lists::last(list) as u64 <= stops::stop_of(s, k, byte)) & list_accepted(list, k)
 }
 
 fn waiting_accepted(s: Settings, t: Stops, w: Waiting) -> bool
@@ -95,12 +102,8 @@ fn waiting_accepted(s: Settings, t: Stops, w: Waiting) -> bool
     match w {
         Waiting::Nothing => true,
         Waiting::SecondByte => true,
-        Waiting::Argument(_) => true,
-        Waiting::PageLength => true,
-        Waiting::PageInches => true,
-        Waiting::FirstOf(_) => true,
-        Waiting::SecondOf(_, _) => true,
-        Waiting::StopList(tabs, byte) => gathering_accepted(s, t, tabs, byte),
+        Waiting::Arguments(_) => true,
+        Waiting::StopList(k, byte) => gathering_accepted(s, t, k, byte),
         Waiting::ImageData(_, n) => 1 <= n,
     }
 }

@@ -11,15 +11,15 @@ use Rattle.writing.specs.declared.Output.{Output}
 use Rattle.writing.specs.declared.Stepped.{Stepped}
 use Rattle.writing.proofs.Outcomes.{whole}
 use Rattle.commands.specs.Leaving.{Writes}
-use Rattle.commands.specs.declared.lines.Written.{Written}
+use Rattle.commands.specs.declared.lines.Recorded.{Recorded}
 
 -- one record
-pub writes-one : {p : Printer} {e : Event} (w : Written) {r : Stepped}
+pub writes-one : {p : Printer} {e : Event} (w : Recorded) {r : Stepped}
     → r ≡ stepped (w .printer) (Output.One (w .wrote)) → Writes p e w → Outcome p (e ∷ []) r
 writes-one {p} {e} w k h = whole p e (Output.One (w .wrote)) (rw (← h .printer) k) (h .wrote)
 
 -- two records: the second event is decided in the state after the first
-pub writes-two : {p : Printer} {e : Event} (f : Printer → Event) (v w : Written) {r : Stepped}
+pub writes-two : {p : Printer} {e : Event} (f : Printer → Event) (v w : Recorded) {r : Stepped}
     → r ≡ stepped (w .printer) (Output.Two (v .wrote) (w .wrote)) → Writes p e v → Writes (v .printer) (f (v .printer)) w
     → Outcome p (e ∷ f (perform p e) ∷ []) r
 unfolding performAll recordsAll
@@ -28,11 +28,11 @@ writes-two f v w k g h =
     rw k (record { printer = s .printer; records = rw (← g .wrote, ← s .wrote) refl })
 
 -- a control as received does what it does inside another command
-pub received : {p : Printer} {c : Control} {b told : ℕ} {l : List Event} {r : Stepped}
-    → Outcome p (inside c told ∷ l) r → Outcome p (done (Command.Control c b) told ∷ l) r
+pub received : {p : Printer} {c : Control} {b n : ℕ} {l : List Event} {r : Stepped}
+    → Outcome p (inside c n ∷ l) r → Outcome p (done (Command.Control c b) n ∷ l) r
 unfolding performAll recordsAll
 received o = record { printer = o .printer; records = o .records }
 
 -- the LF of an automatic line
-pub automatically : {p : Printer} {told : ℕ} {w : Written} → Writes p (inside Control.LineFeed told) w → Writes p (automatic told) w
+pub automatically : {p : Printer} {n : ℕ} {w : Recorded} → Writes p (inside Control.LineFeed n) w → Writes p (automatic n) w
 automatically h = record { printer = h .printer; wrote = h .wrote }

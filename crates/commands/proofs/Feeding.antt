@@ -7,14 +7,16 @@ use native.Mathlib.Nat.{div-add-mod', mul-le-mul-left, mod-eq-of-lt}
 use native.Mathlib.Omega.{arith}
 use borrow.Author.Tests.{ltb-true, ltb-false, le-leb, lt-leb, ne-eqb}
 use Rattle.printer.specs.Tools.{pick}
+use Rattle.printer.specs.Units.{shortestPage}
 use Rattle.printer.specs.Records.{feedRecord}
 use Rattle.printer.specs.Settings.{lineOf, edgeOf, acrossOf, downOf, at}
-use Rattle.printer.specs.Bounds.{Accepted}
+use Rattle.printer.specs.Accepted.{Accepted}
 use Rattle.printer.specs.Performing.{done, inside, withParts, performAll, recordsAll}
 use Rattle.printer.specs.Deciding.{pagesOfLine, feedAfterReturn}
 use Rattle.printer.specs.declared.commands.Command.{Command}
 use Rattle.printer.specs.declared.commands.Control.{Control}
 use Rattle.printer.specs.declared.state.Printer.{Printer}
+use Rattle.printer.specs.declared.units.Units.{Units}
 use Rattle.writing.specs.Outcome.{stepped, Outcome}
 use Rattle.writing.specs.declared.Output.{Output}
 use Rattle.writing.specs.declared.Stepped.{Stepped}
@@ -27,8 +29,8 @@ use Rattle.commands.proofs.Attempts.{reached, unreached}
 
 -- LF, by where its line ends
 module _ (p : Printer) where
-  pub feeds : {n : ℕ} → downward (downOf (p .place)) (lineOf (p .settings)) (edgeOf (p .settings)) ≡ Position.At n
-      → Writes p (inside Control.LineFeed (pagesOfLine p)) (lineTo p n 0)
+  pub feeds : {n : Units} → downward (downOf (p .place)) (lineOf (p .settings)) (edgeOf (p .settings)) ≡ Position.At n
+      → Writes p (inside Control.LineFeed (pagesOfLine p)) (lineTo p (n .0) 0)
   feeds e =
       let f = reached _ _ _ e in
       rw (lt-leb _ _ (ltb-true _ _ (f .0)), ← f .1) (record { printer = refl; wrote = refl })
@@ -53,7 +55,7 @@ module _ (p : Printer) where
   unfolding performAll recordsAll
   stays-after t e = rw (after-return t, e) (record { printer = refl; records = refl })
 
--- ESC J, in a state within its bounds: the edge is at least 3,600, and the pages fit a byte
+-- ESC J, in a state within its bounds: the edge is at least the shortest page, and the pages fit a byte
 module _ (p : Printer) (n : ℕ) (k : n ≤ 255) (h : Accepted p) where
   abbrev sum : ℕ
   sum = downOf (p .place) + 20 * n
@@ -61,7 +63,7 @@ module _ (p : Printer) (n : ℕ) (k : n ≤ 255) (h : Accepted p) where
   abbrev edge : ℕ
   edge = edgeOf (p .settings)
 
-  edge-enough : 3600 ≤ edge
+  edge-enough : shortestPage ≤ edge
   edge-enough = omega arith
 
   pages-fit : sum / edge < 256

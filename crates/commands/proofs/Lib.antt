@@ -4,3 +4,4 @@ pub mod Feeding
 pub mod Wrapping
 pub mod Searches
 pub mod Tabbing
+pub mod StopLists

@@ -1,51 +1,37 @@
 -- How the outcomes of HT and VT follow from what the searches find.
-use Prim.Native.Nat.{ℕ, _+_, _*_, _≤_}
+use Prim.Native.Nat.{ℕ}
 use mathlib.Core.Path.{_≡_, refl, sym, ap, _∙_}
 use mathlib.Core.Bool.{Bool, true, false}
 use mathlib.Core.List.{List, [], _∷_}
-use borrow.Author.Tests.{leb-true}
 use lib.Dec.{ltb, eqb}
 use Rattle.printer.specs.Tools.{pick}
-use Rattle.printer.specs.Widths.{columnWidth}
 use Rattle.printer.specs.Records.{feedRecord, passedRecord}
-use Rattle.printer.specs.Settings.{leftOf, rightOf, edgeOf, downOf, columnsOf, linesOf}
+use Rattle.printer.specs.Settings.{edgeOf, downOf, heldIn}
 use Rattle.printer.specs.Performing.{Event, done, inside, perform}
 use Rattle.printer.specs.Deciding.{pagesOfLine, feedAfterReturn, columnFrom, lineFrom, formInside, verticalEvents, vertical, controlEvents}
 use Rattle.printer.specs.declared.commands.Command.{Command}
 use Rattle.printer.specs.declared.commands.Control.{Control}
 use Rattle.printer.specs.declared.state.Printer.{Printer}
 use Rattle.printer.specs.declared.stops.Stop.{Stop}
-use Rattle.printer.proofs.Choices.{both-right}
+use Rattle.printer.specs.declared.units.Units.{Units}
 use Rattle.writing.specs.Outcome.{stepped, Outcome}
 use Rattle.writing.specs.declared.Output.{Output}
 use Rattle.writing.specs.declared.Stepped.{Stepped}
 use Rattle.writing.proofs.Outcomes.{whole, silently, passed-over}
-use Rattle.commands.specs.Searching.{isAhead}
 use Rattle.commands.specs.Leaving.{movedTo, onLine}
-use Rattle.commands.proofs.Searches.{column-search, line-search, Taken, taken, counted}
+use Rattle.commands.proofs.Searches.{column-search, line-search, taken, counted}
 
 -- HT
 module _ (p : Printer) where
   abbrev sought : Stop
-  sought = columnFrom (p .settings) (p .place) 1 (columnsOf (p .stops .columns))
-
-  abbrev column : ℕ → ℕ
-  column n = leftOf (p .settings) + n * columnWidth (p .settings .width)
-
-  tab-taken : (k n : ℕ) → sought ≡ Stop.Found k n
-      → Taken (isAhead (p .settings .margins) (p .settings .width) (p .place .across)) 1 (columnsOf (p .stops .columns)) k n
-  tab-taken k n e = taken _ 1 _ k n (sym (column-search (p .settings) (p .place) 1 _) ∙ e)
-
-  -- the column is within the right margin
-  pub tab-fits : (k n : ℕ) → sought ≡ Stop.Found k n → column n ≤ rightOf (p .settings)
-  tab-fits k n e = leb-true _ _ (both-right (ltb (p .place .across .0) (column n)) _ (tab-taken k n e .passes))
+  sought = columnFrom (p .settings) (p .place) 1 (heldIn (p .stops .columns))
 
   module _ (b : ℕ) {r : Stepped} where
-    pub tab-done : (k n : ℕ) → sought ≡ Stop.Found k n → r ≡ stepped (movedTo p (column n)) Output.None
+    pub tab-done : (k : ℕ) (to : Units) → sought ≡ Stop.Found k to → r ≡ stepped (movedTo p (to .0)) Output.None
         → Outcome p (controlEvents p Control.HorizontalTab b) r
-    tab-done k n e o =
-        let f = tab-taken k n e in
-        rw e (whole p (done (Command.Control Control.HorizontalTab b) k) Output.None (o ∙ rw (counted f, f .stop)) refl)
+    tab-done k to e o =
+        let f = taken _ _ 1 _ k to (sym (column-search (p .settings) (p .place) 1 _) ∙ e) in
+        rw e (whole p (done (Command.Control Control.HorizontalTab b) k) Output.None (o ∙ rw (counted f, f .position)) refl)
 
     pub tab-passed : sought ≡ Stop.Missing → r ≡ stepped p (Output.One (passedRecord b 5))
         → Outcome p (controlEvents p Control.HorizontalTab b) r
@@ -60,7 +46,7 @@ module _ (p : Printer) (b : ℕ) where
   edge = edgeOf (p .settings)
 
   abbrev found : Stop
-  found = lineFrom (downOf (p .place)) 1 (linesOf (p .stops .lines))
+  found = lineFrom (downOf (p .place)) 1 (heldIn (p .stops .lines))
 
   -- SO ends, and another command is performed
 
@@ -81,18 +67,18 @@ module _ (p : Printer) (b : ℕ) where
       ∙ ap (λ (x : Bool). pick t (pick x (done vt 0 ∷ returned) (verticalEvents p vt found)) (done vt 0 ∷ fed)) f
 
   module _ {r : Stepped} where
-    pub stop-done : (k n : ℕ) → found ≡ Stop.Found k n → ltb n edge ≡ true
-        → r ≡ stepped (onLine p n) (Output.One (feedRecord (p .settings .setup .resolution) n 0))
+    pub stop-done : (k : ℕ) (to : Units) → found ≡ Stop.Found k to → ltb (to .0) edge ≡ true
+        → r ≡ stepped (onLine p (to .0)) (Output.One (feedRecord (p .settings .setup .resolution) (to .0) 0))
         → Outcome p (verticalEvents p vt found) r
-    stop-done k n e t o =
-        let f = taken _ 1 _ k n (sym (line-search (downOf (p .place)) 1 _) ∙ e) in
+    stop-done k to e t o =
+        let f = taken _ _ 1 _ k to (sym (line-search (downOf (p .place)) 1 _) ∙ e) in
         rw (e, t)
-        (whole p (done vt k) (Output.One (feedRecord (p .settings .setup .resolution) n 0)) (o ∙ rw (counted f, f .stop))
-        (rw (counted f, f .stop)))
+        (whole p (done vt k) (Output.One (feedRecord (p .settings .setup .resolution) (to .0) 0))
+        (o ∙ rw (counted f, f .position)) (rw (counted f, f .position)))
 
-    pub stop-below : (k n : ℕ) → found ≡ Stop.Found k n → ltb n edge ≡ false → Outcome p (formInside vt) r
-        → Outcome p (verticalEvents p vt found) r
-    stop-below k n e t o = rw (e, t) o
+    pub stop-below : (k : ℕ) (to : Units) → found ≡ Stop.Found k to → ltb (to .0) edge ≡ false
+        → Outcome p (formInside vt) r → Outcome p (verticalEvents p vt found) r
+    stop-below k to e t o = rw (e, t) o
 
     pub stop-missing : found ≡ Stop.Missing → Outcome p (formInside vt) r → Outcome p (verticalEvents p vt found) r
     stop-missing e o = rw e o

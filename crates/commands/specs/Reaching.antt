@@ -3,6 +3,7 @@ use Prim.Native.Nat.{ℕ, _+_, _*_, _-_, _/_, _%_}
 use mathlib.Core.Bool.{Bool, true, false}
 use lib.Dec.{leb, ltb, eqb}
 use Rattle.printer.specs.Tools.{pick, both}
+use Rattle.printer.specs.Units.{units, paperWidth}
 use Rattle.printer.specs.Widths.{columnWidth}
 use Rattle.printer.specs.Performing.{relativeMove}
 use Rattle.printer.specs.declared.settings.Margins.{Margins}
@@ -12,7 +13,7 @@ use Rattle.commands.specs.declared.positions.Position.{Position}
 
 -- a position, if a test allows it
 unfoldable pub reach : Bool → ℕ → Position
-reach true n = Position.At n
+reach true n = Position.At (units n)
 reach false n = Position.Outside
 
 -- across, within a margin; down, above the edge
@@ -40,15 +41,10 @@ leftColumn w n right = reach (ltb (n * columnWidth w) right) (n * columnWidth w)
 
 abbrev pub rightColumn : Width → (n left : ℕ) → Position
 rightColumn w n left =
-    reach (both (ltb left (n * columnWidth w)) (leb (n * columnWidth w) 28800)) (n * columnWidth w)
-
--- so many lines as a stop
-abbrev pub lineStop : (line edge count n : ℕ) → Position
-lineStop line edge count n =
-    reach (both (ltb count 16) (both (leb 1 (n * line)) (ltb (n * line) edge))) (n * line)
+    reach (both (ltb left (n * columnWidth w)) (leb (n * columnWidth w) paperWidth)) (n * columnWidth w)
 
 -- down by n/180 inch, over edges; nowhere, if the edge is the top
 abbrev pub furtherDown : (down n edge : ℕ) → Depth
 furtherDown down n edge =
-    pick (eqb edge 0) (record { down = down; pages = 0 })
-    (record { down = (down + 20 * n) % edge; pages = (down + 20 * n) / edge % 256 })
+    pick (eqb edge 0) (record { down = units down; pages = 0 })
+    (record { down = units ((down + 20 * n) % edge); pages = (down + 20 * n) / edge % 256 })

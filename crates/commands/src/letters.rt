@@ -1,11 +1,11 @@
 // The bytes that print: letters and image bytes.
-use crate::lines::Written;
+use crate::lines::Recorded;
 use crate::lines::as_step;
 use crate::lines::line_feed;
 use crate::moves::moved;
 use crate::positions::Position;
-use crate::positions::advance_units;
 use crate::positions::rightward;
+use measures::widths;
 use printer::commands::Density;
 use printer::records::Record;
 use printer::settings::Margins;
@@ -34,16 +34,16 @@ ghost use Rattle.commands.specs.Reaching.{rightward};
 ghost use Rattle.commands.specs.Leaving.{printOrPass, Writes};
 
 // A record is written and the printer moves to a position; passed over if that is outside.
-fn print_or_pass(p: Printer, to: Position, wrote: Record, b: u8) -> Written
+fn print_or_pass(p: Printer, to: Position, wrote: Record, b: u8) -> Recorded
     ensures { λ r. ⌜ r ≡ printOrPass p to wrote b ⌝ }
 {
     let Position::At(across) = to else {
-        return Written {
+        return Recorded {
             printer: p,
             wrote: passed_record(b, 4),
         };
     };
-    Written {
+    Recorded {
         printer: moved(p, across),
         wrote,
     }
@@ -56,7 +56,7 @@ pub fn image_byte(p: Printer, d: Density, b: u8) -> Stepped
     let s = p.settings;
     let x = p.place;
     let right = s.margins.right;
-    let to = rightward(x.across, image_step(d).0, right);
+    let to = rightward(x.across, image_step(d), right);
     as_step(print_or_pass(p, to, image_record(s, x, b, d), b))
 }
 
@@ -67,11 +67,11 @@ fn letter_end(s: Settings, x: Place) -> Position
     let width = s.width;
     let right = s.margins.right;
     let across = x.across;
-    rightward(across, advance_units(width), right)
+    rightward(across, widths::advance(width), right)
 }
 
 // A letter, on this line.
-fn letter_here(p: Printer, b: u8) -> Written
+fn letter_here(p: Printer, b: u8) -> Recorded
     ensures { λ r. ⌜ Writes p (attempt p (Command.Letter b) 4) r ⌝ }
 {
     let s = p.settings;
@@ -96,10 +96,10 @@ fn letter_on_next_line(p: Printer, b: u8) -> Stepped
 }
 
 // Whether a letter stays on this line: it ends within the right margin, or it is at the left one, where the next line has no more room.
-fn stays(m: Margins, across: Units, advance: u32) -> bool
-    ensures { λ r. ⌜ r ≡ either (leb (across .0 + advance) (m .right .0)) (eqb (across .0) (m .left .0)) ⌝ }
+fn stays(m: Margins, across: Units, advance: Units) -> bool
+    ensures { λ r. ⌜ r ≡ either (leb (across .0 + advance .0) (m .right .0)) (eqb (across .0) (m .left .0)) ⌝ }
 {
-    let end = across.0 as u64 + advance as u64;
+    let end = across.0 as u64 + advance.0 as u64;
     (end <= m.right.0 as u64) | (across.0 == m.left.0)
 }
 
@@ -110,7 +110,7 @@ pub fn letter(p: Printer, b: u8) -> Stepped
     let margins = p.settings.margins;
     let width = p.settings.width;
     let across = p.place.across;
-    let here = stays(margins, across, advance_units(width));
+    let here = stays(margins, across, widths::advance(width));
     if here {
         return as_step(letter_here(p, b));
     }

@@ -1,6 +1,7 @@
 // Down the page: line feeds, form feeds, and CR, which may feed a line.
 use crate::positions::Position;
 use crate::positions::downward;
+use measures::paper;
 use printer::records::Record;
 use printer::state::Place;
 use printer::state::Printer;
@@ -15,7 +16,7 @@ use writing::wrote;
 ghost use mathlib.Core.Path.{_≡_};
 ghost use mathlib.Core.List.{[], _∷_};
 ghost use Prim.Native.Nat.{_+_, _*_, _/_};
-ghost use Rattle.printer.specs.Bounds.{Accepted};
+ghost use Rattle.printer.specs.Accepted.{Accepted};
 ghost use Rattle.printer.specs.Settings.{edgeOf, downOf};
 ghost use Rattle.printer.specs.Performing.{done, inside, perform};
 ghost use Rattle.printer.specs.Deciding.{pagesOfLine, feedAfterReturn};
@@ -26,13 +27,13 @@ ghost use Rattle.commands.specs.Reaching.{furtherDown};
 ghost use Rattle.commands.specs.Leaving.{onLine, lineTo, fed, Writes};
 
 // The printer after an event that writes one record, and that record.
-pub struct Written {
+pub struct Recorded {
     pub printer: Printer,
     pub wrote: Record,
 }
 
 // The step that is one such event.
-pub fn as_step(w: Written) -> Stepped
+pub fn as_step(w: Recorded) -> Stepped
     ensures { λ r. ⌜ r ≡ stepped (w .printer) (Output.One (w .wrote)) ⌝ }
 {
     let printer = w.printer;
@@ -41,8 +42,8 @@ pub fn as_step(w: Written) -> Stepped
 }
 
 // At the left margin, at a distance from the top; SO ends.
-fn on_line(p: Printer, down: u32) -> Printer
-    ensures { λ r. ⌜ r ≡ onLine p down ⌝ }
+fn on_line(p: Printer, down: Units) -> Printer
+    ensures { λ r. ⌜ r ≡ onLine p (down .0) ⌝ }
 {
     let s = p.settings;
     let across = s.margins.left;
@@ -50,35 +51,32 @@ fn on_line(p: Printer, down: u32) -> Printer
     let waiting = p.waiting;
     Printer {
         settings: end_wide_once(s),
-        place: Place {
-            across,
-            down: Units(down),
-        },
+        place: Place { across, down },
         stops,
         waiting,
     }
 }
 
 // The same, with its LN.
-pub fn line_to(p: Printer, down: u32, pages: u8) -> Written
-    ensures { λ r. ⌜ r ≡ lineTo p down pages ⌝ }
+pub fn line_to(p: Printer, down: Units, pages: u8) -> Recorded
+    ensures { λ r. ⌜ r ≡ lineTo p (down .0) pages ⌝ }
 {
     let s = p.settings;
-    let at = Units(down);
-    Written {
+    Recorded {
         printer: on_line(p, down),
-        wrote: feed_record(s, at, pages),
+        wrote: feed_record(s, down, pages),
     }
 }
 
 // LF: the line amount further down, or the top of a new page at the edge.
-pub fn line_feed(p: Printer) -> Written
+pub fn line_feed(p: Printer) -> Recorded
     ensures { λ r. ⌜ Writes p (inside Control.LineFeed (pagesOfLine p)) r ⌝ }
 {
     let s = p.settings;
     let down = p.place.down;
-    let Position::At(next) = downward(down, s.paper.line.0, s.edge()) else {
-        return line_to(p, 0, 1);
+    let line = s.paper.line;
+    let Position::At(next) = downward(down, line, paper::edge(s)) else {
+        return line_to(p, Units(0), 1);
     };
     line_to(p, next, 0)
 }
@@ -87,7 +85,7 @@ pub fn line_feed(p: Printer) -> Written
 pub fn form_feed(p: Printer) -> Stepped
     ensures { λ r. ⌜ Outcome p (inside Control.FormFeed 0 ∷ []) r ⌝ }
 {
-    as_step(line_to(p, 0, 1))
+    as_step(line_to(p, Units(0), 1))
 }
 
 // After a CR: LF, if automatic line feed is set.
@@ -112,7 +110,7 @@ pub fn carriage_return(p: Printer) -> Stepped
 
 // A distance from the top, and the pages turned on the way.
 struct Depth {
-    down: u32,
+    down: Units,
     pages: u8,
 }
 
@@ -121,15 +119,12 @@ fn further_down(down: Units, n: u8, edge: Units) -> Depth
     ensures { λ r. ⌜ r ≡ furtherDown (down .0) n (edge .0) ⌝ }
 {
     if edge.0 == 0 {
-        return Depth {
-            down: down.0,
-            pages: 0,
-        };
+        return Depth { down, pages: 0 };
     }
     let sum = down.0 as u64 + 20 * (n as u64);
     let length = edge.0 as u64;
     Depth {
-        down: (sum % length) as u32,
+        down: Units((sum % length) as u32),
         pages: (sum / length % 256) as u8,
     }
 }
@@ -141,8 +136,8 @@ pub fn feed(p: Printer, n: u8) -> Stepped
 {
     let s = p.settings;
     let across = p.place.across;
-    let depth = further_down(p.place.down, n, s.edge());
-    let down = Units(depth.down);
+    let depth = further_down(p.place.down, n, paper::edge(s));
+    let down = depth.down;
     let line = feed_record(s, down, depth.pages);
     wrote(with_place(p, Place { across, down }), line)
 }

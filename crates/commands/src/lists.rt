@@ -1,181 +1,157 @@
 // ESC D and ESC B: the lists that set tab stops.
-use crate::positions::Position;
-use crate::positions::columns;
+use crate::positions::column_position;
+use measures::paper;
+use measures::stops;
+use printer::commands::ListPart;
 use printer::commands::Tabs;
 use printer::settings::Margins;
+use printer::settings::Settings;
 use printer::settings::Width;
 use printer::state::Printer;
-use printer::stops::Columns;
-use printer::stops::Lines;
 use printer::stops::Stops;
+use printer::stops::TabStops;
 use printer::units::Units;
 use writing::Stepped;
 use writing::passed;
 use writing::silent;
 use writing::with_stops;
 ghost use mathlib.Core.Path.{_≡_};
+ghost use mathlib.Core.Bool.{true};
 ghost use mathlib.Core.List.{[], _∷_};
-ghost use Prim.Native.Nat.{ℕ, _+_, _*_, _<_};
+ghost use Prim.Native.Nat.{ℕ, _<_, _≤_};
 ghost use lib.Dec.{leb, ltb};
-ghost use Rattle.printer.specs.Tools.{both};
-ghost use Rattle.printer.specs.Widths.{columnWidth};
-ghost use Rattle.printer.specs.PowerOn.{noColumns, noLines};
-ghost use Rattle.printer.specs.Performing.{done, withColumn, withLineStop, listOpened, listEnded};
-ghost use Rattle.printer.specs.Deciding.{attempt};
+ghost use Rattle.printer.specs.Tools.{both, holds};
+ghost use Rattle.printer.specs.PowerOn.{noStops};
+ghost use Rattle.printer.specs.Performing.{done, gathering, stopOf, oneMore, listEnded, listStops};
+ghost use Rattle.printer.specs.Deciding.{stopPlace, stopNeeds, attempt};
 ghost use Rattle.printer.specs.declared.commands.Command.{Command};
 ghost use Rattle.writing.specs.Outcome.{Outcome};
-ghost use Rattle.commands.specs.Reaching.{lineStop};
+ghost use Rattle.commands.specs.Searching.{columnAt};
 
-fn no_columns() -> Columns
-    ensures { λ r. ⌜ r ≡ noColumns ⌝ }
+fn no_stops() -> TabStops
+    ensures { λ r. ⌜ r ≡ noStops ⌝ }
 {
-    let stops = [0; Columns::MOST];
-    Columns { stops, count: 0 }
+    let stops = [0; TabStops::ROOM];
+    TabStops { stops, count: 0 }
 }
 
-fn no_lines() -> Lines
-    ensures { λ r. ⌜ r ≡ noLines ⌝ }
+// The stops with another list being gathered.
+fn gathering(mut t: Stops, list: TabStops) -> Stops
+    ensures { λ r. ⌜ r ≡ gathering t list ⌝ }
 {
-    let stops = [0; Lines::MOST];
-    Lines { stops, count: 0 }
+    t.gathered = list;
+    t
 }
 
-// The stops with an empty list begun.
-fn list_opened(mut t: Stops, k: Tabs) -> Stops
-    ensures { λ r. ⌜ r ≡ listOpened t k ⌝ }
-{
-    match k {
-        Tabs::Horizontal => {
-            let none = no_columns();
-            t.gatheredcolumns = none;
-            t
-        }
-        Tabs::Vertical => {
-            let none = no_lines();
-            t.gatheredlines = none;
-            t
-        }
-    }
-}
-
-// ESC D, ESC B.
-pub fn open_list(p: Printer, k: Tabs) -> Stepped
-    ensures { λ r. ⌜ Outcome p (done (Command.OpenList k) 0 ∷ []) r ⌝ }
+// ESC D, ESC B: an empty list is begun.
+fn open_list(p: Printer) -> Stepped
+    ensures { λ r. ⌜ ((k : Tabs) → Outcome p (done (Command.List k ListPart.Open) 0 ∷ []) r) ⌝ }
 {
     let t = p.stops;
-    silent(with_stops(p, list_opened(t, k)))
+    silent(with_stops(p, gathering(t, no_stops())))
 }
 
 // The list replaces the stops in force.
 fn list_ended(mut t: Stops, k: Tabs) -> Stops
     ensures { λ r. ⌜ r ≡ listEnded t k ⌝ }
 {
+    let list = t.gathered;
+    let none = no_stops();
+    t.gathered = none;
     match k {
         Tabs::Horizontal => {
-            let new = t.gatheredcolumns;
-            let none = no_columns();
-            t.columns = new;
-            t.gatheredcolumns = none;
+            t.columns = list;
             t
         }
         Tabs::Vertical => {
-            let new = t.gatheredlines;
-            let none = no_lines();
-            t.lines = new;
+            t.lines = list;
             t.lineset = true;
-            t.gatheredlines = none;
             t
         }
     }
 }
 
 // The end of a list.
-pub fn end_list(p: Printer, k: Tabs) -> Stepped
-    ensures { λ r. ⌜ ((b : ℕ) → Outcome p (done (Command.EndList k b) 0 ∷ []) r) ⌝ }
+fn end_list(p: Printer, k: Tabs) -> Stepped
+    ensures { λ r. ⌜ ((b : ℕ) → Outcome p (done (Command.List k (ListPart.End b)) 0 ∷ []) r) ⌝ }
 {
     let t = p.stops;
     silent(with_stops(p, list_ended(t, k)))
 }
 
-// Whether a column may be a stop: there is room for it, and it is within the right margin.
-fn column_fits(m: Margins, w: Width, count: usize, n: u8) -> bool
-    ensures { λ r. ⌜ r ≡ both (ltb count 32) (leb (m .left .0 + n * columnWidth w) (m .right .0)) ⌝ }
+// Whether a column is within the right margin.
+fn column_fits(m: Margins, w: Width, n: u8) -> bool
+    ensures { λ r. ⌜ r ≡ leb (columnAt m w n) (m .right .0) ⌝ }
 {
-    let to = m.left.0 as u64 + columns(w, n as u32);
-    (count < Columns::MOST) & (to <= m.right.0 as u64)
+    column_position(m, w, n as u32) <= m.right.0 as u64
 }
 
-fn with_column(mut c: Columns, n: u8) -> Columns
-    requires { ⌜ c .count < 32 ⌝ }
-    ensures { λ r. ⌜ r ≡ withColumn c n ⌝ }
+// Whether a distance from the top is below it and above the edge, so that it fits 32 bits.
+fn line_fits(down: u64, edge: Units) -> bool
+    ensures { λ r. ⌜ (r ≡ both (leb 1 down) (ltb down (edge .0))) × (r ≡ true → down ≤ 0xFFFFFFFF) ⌝ }
 {
-    let at = c.count;
-    c.stops[at] = n;
-    c.count = at + 1;
-    c
+    (1 <= down) & (down < edge.0 as u64)
 }
 
-// A byte of ESC D: a stop at its column.
-fn column_stop(p: Printer, b: u8) -> Stepped
-    ensures { λ r. ⌜ Outcome p (attempt p (Command.ListByte Tabs.Horizontal b) 3 ∷ []) r ⌝ }
+// Whether a list byte, made a stop, is within the page, so that it fits 32 bits.
+fn stop_fits(s: Settings, k: Tabs, b: u8) -> bool
+    ensures { λ r. ⌜ (r ≡ holds (stopPlace s k (stopOf s k b))) × (r ≡ true → stopOf s k b ≤ 0xFFFFFFFF) ⌝ }
 {
-    let margins = p.settings.margins;
-    let width = p.settings.width;
-    let mut t = p.stops;
-    let new = t.gatheredcolumns;
-    let fits = column_fits(margins, width, new.count, b);
-    if fits {
-        let longer = with_column(new, b);
-        t.gatheredcolumns = longer;
-        return silent(with_stops(p, t));
+    let margins = s.margins;
+    let width = s.width;
+    match k {
+        Tabs::Horizontal => column_fits(margins, width, b),
+        Tabs::Vertical => line_fits(stops::stop_of(s, k, b), paper::edge(s)),
+    }
+}
+
+// A list with one more stop.
+fn one_more(mut list: TabStops, stop: u32) -> TabStops
+    requires { ⌜ list .count < 32 ⌝ }
+    ensures { λ r. ⌜ r ≡ oneMore list stop ⌝ }
+{
+    let at = list.count as usize;
+    list.stops[at] = stop;
+    list.count += 1;
+    list
+}
+
+// Whether a list byte may be a stop: the list has room for it, and it is within the page.
+fn stop_allowed(s: Settings, t: Stops, k: Tabs, b: u8) -> bool
+    ensures { λ r. ⌜ (r ≡ holds (stopNeeds s t k b)) × (r ≡ true → stopOf s k b ≤ 0xFFFFFFFF) ⌝ }
+{
+    (t.gathered.count < stops::most(k)) & stop_fits(s, k, b)
+}
+
+// The stops with such a byte in the list.
+fn stop_added(s: Settings, t: Stops, k: Tabs, b: u8) -> Stops
+    requires { ⌜ (t .gathered .count < 32) × (stopOf s k b ≤ 0xFFFFFFFF) ⌝ }
+    ensures { λ r. ⌜ r ≡ listStops s t k (ListPart.Byte b) ⌝ }
+{
+    let list = t.gathered;
+    gathering(t, one_more(list, stops::stop_of(s, k, b) as u32))
+}
+
+// A byte of a list: one more stop, or passed over.
+fn list_byte(p: Printer, k: Tabs, b: u8) -> Stepped
+    ensures { λ r. ⌜ Outcome p (attempt p (Command.List k (ListPart.Byte b)) 3 ∷ []) r ⌝ }
+{
+    let s = p.settings;
+    let t = p.stops;
+    let allowed = stop_allowed(s, t, k, b);
+    if allowed {
+        return silent(with_stops(p, stop_added(s, t, k, b)));
     }
     passed(p, b, 3)
 }
 
-// So many lines as a stop: there is room for it, and it is between the top and the edge.
-fn line_stop(line: Units, edge: Units, count: usize, n: u8) -> Position
-    ensures { λ r. ⌜ r ≡ lineStop (line .0) (edge .0) count n ⌝ }
+// A list's escape, or a byte of the list.
+pub fn list(p: Printer, k: Tabs, part: ListPart) -> Stepped
+    ensures { λ r. ⌜ Outcome p (attempt p (Command.List k part) 3 ∷ []) r ⌝ }
 {
-    let down = n as u64 * line.0 as u64;
-    let fits = (count < Lines::MOST) & (1 <= down) & (down < edge.0 as u64);
-    if fits {
-        return Position::At(down as u32);
-    }
-    Position::Outside
-}
-
-fn with_line_stop(mut c: Lines, down: u32) -> Lines
-    requires { ⌜ c .count < 16 ⌝ }
-    ensures { λ r. ⌜ r ≡ withLineStop c down ⌝ }
-{
-    let at = c.count;
-    c.stops[at] = down;
-    c.count = at + 1;
-    c
-}
-
-// A byte of ESC B: a stop so many lines down.
-fn vertical_stop(p: Printer, b: u8) -> Stepped
-    ensures { λ r. ⌜ Outcome p (attempt p (Command.ListByte Tabs.Vertical b) 3 ∷ []) r ⌝ }
-{
-    let s = p.settings;
-    let line = s.paper.line;
-    let mut t = p.stops;
-    let new = t.gatheredlines;
-    let Position::At(down) = line_stop(line, s.edge(), new.count, b) else {
-        return passed(p, b, 3);
-    };
-    let longer = with_line_stop(new, down);
-    t.gatheredlines = longer;
-    silent(with_stops(p, t))
-}
-
-// A byte of a list.
-pub fn list_byte(p: Printer, k: Tabs, b: u8) -> Stepped
-    ensures { λ r. ⌜ Outcome p (attempt p (Command.ListByte k b) 3 ∷ []) r ⌝ }
-{
-    match k {
-        Tabs::Horizontal => column_stop(p, b),
-        Tabs::Vertical => vertical_stop(p, b),
+    match part {
+        ListPart::Open => open_list(p),
+        ListPart::Byte(b) => list_byte(p, k, b),
+        ListPart::End(_) => end_list(p, k),
     }
 }

@@ -1,6 +1,7 @@
 // ESC l and ESC Q: the margins.
 use crate::positions::Position;
 use crate::positions::columns;
+use printer::commands::Side;
 use printer::settings::Margins;
 use printer::settings::Width;
 use printer::state::Place;
@@ -26,7 +27,7 @@ fn left_column(w: Width, n: u8, right: Units) -> Position
 {
     let to = columns(w, n as u32);
     if to < right.0 as u64 {
-        return Position::At(to as u32);
+        return Position::At(Units(to as u32));
     }
     Position::Outside
 }
@@ -38,7 +39,7 @@ fn right_column(w: Width, n: u8, left: Units) -> Position
     let to = columns(w, n as u32);
     let fits = ((left.0 as u64) < to) & (to <= Printer::WIDTH.0 as u64);
     if fits {
-        return Position::At(to as u32);
+        return Position::At(Units(to as u32));
     }
     Position::Outside
 }
@@ -69,25 +70,35 @@ fn cleared(p: Printer) -> Stepped
 }
 
 // ESC l.
-pub fn left_margin(p: Printer, n: u8) -> Stepped
-    ensures { λ r. ⌜ Outcome p (attempt p (Command.LeftMargin n) 3 ∷ []) r ⌝ }
+fn left_margin(p: Printer, n: u8) -> Stepped
+    ensures { λ r. ⌜ Outcome p (attempt p (Command.Margin Side.Left n) 3 ∷ []) r ⌝ }
 {
     let width = p.settings.width;
     let right = p.settings.margins.right;
     let Position::At(left) = left_column(width, n, right) else {
         return passed(p, b'l', 3);
     };
-    cleared(margins_set(p, Units(left), right))
+    cleared(margins_set(p, left, right))
 }
 
 // ESC Q.
-pub fn right_margin(p: Printer, n: u8) -> Stepped
-    ensures { λ r. ⌜ Outcome p (attempt p (Command.RightMargin n) 3 ∷ []) r ⌝ }
+fn right_margin(p: Printer, n: u8) -> Stepped
+    ensures { λ r. ⌜ Outcome p (attempt p (Command.Margin Side.Right n) 3 ∷ []) r ⌝ }
 {
     let width = p.settings.width;
     let left = p.settings.margins.left;
     let Position::At(right) = right_column(width, n, left) else {
         return passed(p, b'Q', 3);
     };
-    cleared(margins_set(p, left, Units(right)))
+    cleared(margins_set(p, left, right))
+}
+
+// A margin set, or passed over.
+pub fn margin(p: Printer, side: Side, n: u8) -> Stepped
+    ensures { λ r. ⌜ Outcome p (attempt p (Command.Margin side n) 3 ∷ []) r ⌝ }
+{
+    match side {
+        Side::Left => left_margin(p, n),
+        Side::Right => right_margin(p, n),
+    }
 }

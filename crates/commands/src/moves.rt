@@ -1,8 +1,9 @@
 // Moves along the line: BS, ESC $, ESC \.
 use crate::positions::Position;
-use crate::positions::advance_units;
 use crate::positions::leftward;
 use crate::positions::rightward;
+use measures::widths;
+use printer::commands::Move;
 use printer::settings::Margins;
 use printer::settings::Width;
 use printer::state::Place;
@@ -25,12 +26,11 @@ ghost use Rattle.commands.specs.Reaching.{leftward, relativeTo};
 ghost use Rattle.commands.specs.Leaving.{movedTo, moveOrPass};
 
 // The printer at another position of the line.
-pub fn moved(p: Printer, across: u32) -> Printer
-    ensures { λ r. ⌜ r ≡ movedTo p across ⌝ }
+pub fn moved(p: Printer, across: Units) -> Printer
+    ensures { λ r. ⌜ r ≡ movedTo p (across .0) ⌝ }
 {
     let down = p.place.down;
-    let at = Units(across);
-    with_place(p, Place { across: at, down })
+    with_place(p, Place { across, down })
 }
 
 // To a position; passed over if it is outside.
@@ -47,7 +47,7 @@ fn move_or_pass(p: Printer, to: Position, b: u8) -> Stepped
 fn backspace_end(w: Width, across: Units, left: Units) -> Position
     ensures { λ r. ⌜ r ≡ leftward (across .0) (advance w) (left .0) ⌝ }
 {
-    leftward(across, advance_units(w), left)
+    leftward(across, widths::advance(w), left)
 }
 
 // BS.
@@ -68,12 +68,12 @@ fn word(a: u8, b: u8) -> u32
 }
 
 // ESC $: so many sixtieths of an inch from the left margin.
-pub fn absolute(p: Printer, a: u8, b: u8) -> Stepped
-    ensures { λ r. ⌜ Outcome p (attempt p (Command.Absolute a b) 3 ∷ []) r ⌝ }
+fn absolute(p: Printer, a: u8, b: u8) -> Stepped
+    ensures { λ r. ⌜ Outcome p (attempt p (Command.Move Move.Absolute a b) 3 ∷ []) r ⌝ }
 {
     let left = p.settings.margins.left;
     let right = p.settings.margins.right;
-    move_or_pass(p, rightward(left, 60 * word(a, b), right), b'$')
+    move_or_pass(p, rightward(left, Units(60 * word(a, b)), right), b'$')
 }
 
 // The units of one step of ESC \.
@@ -91,18 +91,28 @@ fn relative_to(m: Margins, across: Units, n: u32, step: u32) -> Position
     let left = m.left;
     let right = m.right;
     if n < 0x8000 {
-        return rightward(across, n * step, right);
+        return rightward(across, Units(n * step), right);
     }
-    leftward(across, (0x10000 - n) * step, left)
+    leftward(across, Units((0x10000 - n) * step), left)
 }
 
 // ESC \: right or left.
-pub fn relative(p: Printer, a: u8, b: u8) -> Stepped
-    ensures { λ r. ⌜ Outcome p (attempt p (Command.Relative a b) 3 ∷ []) r ⌝ }
+fn relative(p: Printer, a: u8, b: u8) -> Stepped
+    ensures { λ r. ⌜ Outcome p (attempt p (Command.Move Move.Relative a b) 3 ∷ []) r ⌝ }
 {
     let margins = p.settings.margins;
     let across = p.place.across;
     let step = relative_step(p.settings.draft);
     let to = relative_to(margins, across, word(a, b), step);
     move_or_pass(p, to, b'\\')
+}
+
+// A move by two argument bytes.
+pub fn move_by(p: Printer, m: Move, a: u8, b: u8) -> Stepped
+    ensures { λ r. ⌜ Outcome p (attempt p (Command.Move m a b) 3 ∷ []) r ⌝ }
+{
+    match m {
+        Move::Absolute => absolute(p, a, b),
+        Move::Relative => relative(p, a, b),
+    }
 }

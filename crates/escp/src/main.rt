@@ -1,9 +1,10 @@
 // A program: ESC/P on standard input, a line of hex for each record on standard output.
+use command_line::Choice;
+use command_line::Options;
 use libc::STDERR_FILENO;
 use libc::STDOUT_FILENO;
-use lines::command_line::Choice;
-use lines::command_line::Options;
 use printer::answers::Answer;
+use printer::settings::StartSettings;
 
 // What the words of the command line ask for.
 fn asked() -> Choice {
@@ -26,7 +27,7 @@ fn help() {
     );
     io::write_all(
         STDOUT_FILENO,
-        b"Reads ESC/P and writes each record as a line of 28 hex digits.\n",
+        b"Reads ESC/P and writes each record as a line of hex digits.\n",
     );
     io::write_all(
         STDOUT_FILENO,
@@ -46,8 +47,8 @@ fn bad_usage() {
     );
 }
 
-fn start(dots: u32, autofeed: bool) {
-    let started = reader::start(dots, autofeed);
+fn start(settings: StartSettings) {
+    let started = reader::start(settings);
     let answer = started.answer;
     let printer = started.printer;
     match answer {
@@ -62,7 +63,7 @@ fn start(dots: u32, autofeed: bool) {
 
 fn main() {
     match asked() {
-        Choice::Run(dots, autofeed) => start(dots, autofeed),
+        Choice::Run(settings) => start(settings),
         Choice::Help => help(),
         Choice::Bad => bad_usage(),
     }

@@ -1,23 +1,22 @@
 -- Packing and unpacking undo each other.
 use Prim.Native.Nat.{ℕ}
-use mathlib.Core.Path.{_≡_, refl, sym, ap}
+use mathlib.Core.Path.{_≡_, refl, sym}
 use mathlib.Core.Bool.{Bool, true, false, _&&_, _||_}
 use lib.Dec.{eqb}
 use native.Mathlib.Omega.{arith}
 use borrow.Author.Tests.{leb-true, eqb-true, eq-eqb}
-use Rattle.printer.specs.Codes.{oneCode, twoCode, listCode, imageCode}
+use Rattle.printer.specs.Codes.{begunBy}
+use Rattle.printer.specs.Framing.{frame}
 use Rattle.printer.specs.Tools.{lookup}
-use Rattle.printer.specs.declared.commands.Density.{Density}
-use Rattle.printer.specs.declared.commands.One.{One}
-use Rattle.printer.specs.declared.commands.Parameter.{Parameter}
-use Rattle.printer.specs.declared.commands.Tabs.{Tabs}
+use Rattle.printer.specs.declared.commands.Begun.{Begun}
 use Rattle.printer.specs.declared.commands.Two.{Two}
 use Rattle.printer.specs.declared.commands.Waiting.{Waiting}
 use Rattle.printer.specs.declared.settings.Pitch.{Pitch}
 use Rattle.printer.specs.declared.state.Printer.{Printer}
 use Rattle.printer.specs.declared.units.Resolution.{Resolution}
+use Rattle.printer.proofs.Listed.{every-listed}
 use Rattle.ierbulosc.specs.Numbers.{flag, isSet, isFlag, resolutionNumber, resolutionOf, isResolution, pitchNumber, pitchOf, isPitch}
-use Rattle.ierbulosc.specs.Waits.{coded, ones, twos, densities, lists, oneOf, twoOf, densityOf, tabsOf, kinds, waits, packWaiting, waitingOf, sameWaiting, validWaiting}
+use Rattle.ierbulosc.specs.Waits.{kinds, waits, packBytes, packWaiting, waitingOf, sameWaiting, validWaiting}
 use Rattle.ierbulosc.specs.Packing.{packSetup, packWidth, packStyle, packFace, packStops, pack}
 use Rattle.ierbulosc.specs.Unpacking.{settingsOf, widthOf, faceOf, stopsOf, validSetup, validWidth, validStyle, validFace, valid, printerOf}
 use Rattle.ierbulosc.specs.declared.state.State.{State}
@@ -45,61 +44,23 @@ pitch-back Pitch.Cpi10 = refl
 pitch-back Pitch.Cpi12 = refl
 pitch-back Pitch.Cpi15 = refl
 
-density-back : (d : Density) → densityOf (imageCode d) ≡ d
-unfolding lookup coded densities
-density-back Density.Single = refl
-density-back Density.Double = refl
-density-back Density.DoubleSpeed = refl
-density-back Density.Quadruple = refl
+-- framing the bytes of what is waited for gives it back
 
-two-back : (c : Two) → twoOf (twoCode c) ≡ c
-unfolding lookup coded twos
-two-back Two.Absolute = refl
-two-back Two.Relative = refl
-two-back (Two.Image Density.Single) = refl
-two-back (Two.Image Density.Double) = refl
-two-back (Two.Image Density.DoubleSpeed) = refl
-two-back (Two.Image Density.Quadruple) = refl
-
-tabs-back : (t : Tabs) → tabsOf (listCode t) ≡ t
-unfolding lookup coded lists
-tabs-back Tabs.Horizontal = refl
-tabs-back Tabs.Vertical = refl
-
-one-back : (c : One) → oneOf (oneCode c) ≡ c
-unfolding lookup coded ones
-one-back (One.Parameter Parameter.Line180ths) = refl
-one-back (One.Parameter Parameter.Line60ths) = refl
-one-back (One.Parameter Parameter.Line360ths) = refl
-one-back (One.Parameter Parameter.Skip) = refl
-one-back (One.Parameter Parameter.Spacing) = refl
-one-back (One.Parameter Parameter.Proportional) = refl
-one-back (One.Parameter Parameter.Script) = refl
-one-back (One.Parameter Parameter.Quality) = refl
-one-back (One.Parameter Parameter.DoubleWidth) = refl
-one-back (One.Parameter Parameter.DoubleHeight) = refl
-one-back (One.Parameter Parameter.Underline) = refl
-one-back (One.Parameter Parameter.Download) = refl
-one-back (One.Parameter Parameter.CodeTable) = refl
-one-back (One.Parameter Parameter.Country) = refl
-one-back (One.Parameter Parameter.Outline) = refl
-one-back (One.Parameter Parameter.Font) = refl
-one-back (One.Parameter Parameter.Master) = refl
-one-back One.Feed = refl
-one-back One.LeftMargin = refl
-one-back One.RightMargin = refl
+begun-back : (w : Begun) → waitingOf (packBytes (begunBy w)) ≡ Waiting.Arguments w
+unfolding lookup kinds frame
+begun-back (Begun.One c) = rw (every-listed .one c)
+begun-back Begun.PageLength = rw (every-listed .page)
+begun-back Begun.PageInches = rw (every-listed .page)
+begun-back (Begun.FirstOf c) = rw (every-listed .two c)
+begun-back (Begun.SecondOf c a) = rw (every-listed .two c)
 
 waiting-back : (w : Waiting) → waitingOf (packWaiting w) ≡ w
-unfolding lookup kinds
+unfolding lookup kinds frame
 waiting-back Waiting.Nothing = refl
 waiting-back Waiting.SecondByte = refl
-waiting-back (Waiting.Argument c) = ap Waiting.Argument (one-back c)
-waiting-back Waiting.PageLength = refl
-waiting-back Waiting.PageInches = refl
-waiting-back (Waiting.FirstOf c) = ap Waiting.FirstOf (two-back c)
-waiting-back (Waiting.SecondOf c a) = ap (λ (d : Two). Waiting.SecondOf d a) (two-back c)
-waiting-back (Waiting.StopList t b) = ap (λ (u : Tabs). Waiting.StopList u b) (tabs-back t)
-waiting-back (Waiting.ImageData d n) = ap (λ (e : Density). Waiting.ImageData e n) (density-back d)
+waiting-back (Waiting.Arguments w) = begun-back w
+waiting-back (Waiting.StopList t b) = rw (every-listed .list t)
+waiting-back (Waiting.ImageData d n) = rw (every-listed .two (Two.Image d))
 
 pub printer-back : (p : Printer) → printerOf (pack p) ≡ p
 unfolding printerOf pack

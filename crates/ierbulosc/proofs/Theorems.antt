@@ -5,16 +5,18 @@ use mathlib.Core.Bool.{Bool, true, false}
 use mathlib.Core.List.{List}
 use lib.ListN.{length}
 use native.Mathlib.Omega.{arith}
-use Rattle.printer.specs.Calls.{readingOf, LentPromise, Manner, lent, ReadCall, ThatState, row, numberOf}
+use Rattle.printer.specs.Calls.{startOf, readingOf, ReadCall, ThatState, row, numberOf}
+use Rattle.printer.specs.Promises.{StartPromise, LentPromise, callBy}
 use Rattle.printer.specs.declared.answers.Answer.{Answer}
+use Rattle.printer.specs.declared.settings.StartSettings.{StartSettings}
 use Rattle.printer.specs.declared.state.Printer.{Printer}
-use Rattle.ierbulosc.specs.Calls.{countsOf, EscpReadPromise, stateReadingOf, stateOutputOf}
+use Rattle.ierbulosc.specs.Calls.{countsOf, EscpReadPromise, EscpStartPromise, stateStartOf, stateReadingOf, stateOutputOf}
 use Rattle.ierbulosc.specs.Packing.{pack}
 use Rattle.ierbulosc.specs.Unpacking.{valid, printerOf, unpack}
 use Rattle.ierbulosc.specs.declared.state.Counts.{Counts}
 use Rattle.ierbulosc.specs.declared.state.State.{State}
 use Rattle.ierbulosc.specs.declared.unpack.Unpacked.{Unpacked}
-use Rattle.printer.proofs.Theorems.{answers}
+use Rattle.printer.proofs.Answering.{read-promise, start-promise}
 use Rattle.ierbulosc.proofs.RoundTrip.{printer-back, pack-valid, pack-again}
 
 -- the state, found
@@ -35,6 +37,19 @@ refused-unpacked s e p h =
     let z : _≡_ {A = Bool} true false = sym (pack-valid p) ∙ ap (λ (t : State). unpack t .valid) h ∙ e in
     let y : _≡_ {A = ℕ} 0 1 = cc in
     omega arith
+
+-- escp_start is the start by value, with answer and state as numbers; what it leaves is a state
+pub start-as-by-value : (settings : StartSettings) (number : ℕ) (left : State) → EscpStartPromise settings number left
+    → let v = startOf settings in
+    StartPromise settings v × (number ≡ numberOf (v .answer)) × (left ≡ pack (v .printer)) × (unpack left ≡ found (v .printer))
+unfolding stateStartOf
+start-as-by-value settings number left promise =
+    let v = startOf settings in (
+      start-promise settings v refl,
+      promise .answer,
+      promise .state,
+      ap unpack (promise .state) ∙ unpack-pack (v .printer),
+    )
 
 -- a test with its answer as an equation
 known-elim : (P : Type 0) (t : Bool) → (t ≡ true → P) → (t ≡ false → P) → P
@@ -59,7 +74,7 @@ module _ (s : State) (input : List ℕ) (allowance : ℕ) (out : List ℕ) (numb
   read-as-lent p h =
       let e : valid s ≡ true = ap (λ (u : Unpacked). u .valid) h in
       let f : printerOf s ≡ p = ap (λ (u : Unpacked). u .printer) h in (
-        record { gives = refl; output = promise .output ∙ rw (e, f) },
+        read-promise p input allowance out (readingOf p input allowance (length out)) after refl (promise .output ∙ rw (e, f)),
         promise .answer ∙ rw (e, f),
         promise .state ∙ rw (e, f),
         promise .counts ∙ rw (e, f),
@@ -84,19 +99,9 @@ module _ (s : State) (input : List ℕ) (allowance : ℕ) (out : List ℕ) (numb
       let p = printerOf s in
       let lent = read-as-lent p (ap (λ (t : Bool). record { valid = t; printer = p }) e) in
       let v = readingOf p input allowance (length out) in
-      let c : ReadCall =
-      record {
-        manner = Manner.lent;
-        state = p;
-        input = input;
-        allowance = allowance;
-        out = out;
-        back = v .report;
-        left = v .printer;
-        after = after;
-      } in
+      let c : ReadCall = callBy p input allowance out v after in
       let that : ThatState c =
-      subst (λ (a : Answer). row a .reading c .back) (of-4 (v .report .answer) (sym (lent .1) ∙ four)) (answers c (lent .0) .back) in (
+      subst (λ (a : Answer). row a .reading c .back) (of-4 (v .report .answer) (sym (lent .1) ∙ four)) (lent .0 .byTable .back) in (
         lent .2 ∙ ap pack (that .state) ∙ pack-again s e,
         lent .3 ∙ cc (that .read, that .written),
         that .output,

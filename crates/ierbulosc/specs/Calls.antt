@@ -1,14 +1,16 @@
 -- What the exported calls promise: those of the reader, on the state as numbers.
 use Prim.Native.Nat.{ℕ}
 use mathlib.Core.Path.{_≡_}
-use mathlib.Core.Bool.{Bool}
+use mathlib.Core.Bool.{not}
 use mathlib.Core.List.{List}
-use lib.ListN.{length}
+use lib.Dec.{eqb}
+use lib.ListN.{length, getD}
 use Rattle.printer.specs.Calls.{numberOf, startOf, readingOf, outputOf}
 use Rattle.printer.specs.Tools.{pick}
 use Rattle.printer.specs.declared.answers.Answer.{Answer}
 use Rattle.printer.specs.declared.answers.Reading.{Reading}
 use Rattle.printer.specs.declared.answers.Started.{Started}
+use Rattle.printer.specs.declared.settings.StartSettings.{StartSettings}
 use Rattle.ierbulosc.specs.Packing.{pack}
 use Rattle.ierbulosc.specs.Unpacking.{unpack}
 use Rattle.ierbulosc.specs.declared.StateReading.{StateReading}
@@ -21,11 +23,19 @@ countsOf read written = record { read = read; written = written }
 
 -- a start
 
+-- how many numbers the settings are
+abbrev pub settingsCount : ℕ
+settingsCount = 2
+
+-- the settings by their numbers: any but 0 switches automatic line feed on
+abbrev pub settingsOf : List ℕ → StartSettings
+settingsOf given = record { resolution = getD given 0 0; autofeed = not (eqb (getD given 1 0) 0) }
+
 abbrev pub packStarted : Started → StateStarted
 packStarted r = record { answer = numberOf (r .answer); state = pack (r .printer) }
 
-unfoldable pub stateStartOf : (dots : ℕ) (autofeed : Bool) → StateStarted
-stateStartOf dots autofeed = packStarted (startOf dots autofeed)
+unfoldable pub stateStartOf : StartSettings → StateStarted
+stateStartOf settings = packStarted (startOf settings)
 
 -- a reading
 
@@ -66,6 +76,6 @@ pub record EscpReadPromise
   pub output : after ≡ stateOutputOf s input allowance out
 
 -- escp_start: of its answer's number and the state that it leaves
-pub record EscpStartPromise (dots : ℕ) (autofeed : Bool) (number : ℕ) (left : State) : Type 0 where
-  pub answer : number ≡ stateStartOf dots autofeed .answer
-  pub state : left ≡ stateStartOf dots autofeed .state
+pub record EscpStartPromise (settings : StartSettings) (number : ℕ) (left : State) : Type 0 where
+  pub answer : number ≡ stateStartOf settings .answer
+  pub state : left ≡ stateStartOf settings .state

@@ -5,20 +5,18 @@ use Rattle.printer.specs.declared.settings.Settings.{Settings}
 use Rattle.printer.specs.declared.settings.Width.{Width}
 use Rattle.printer.specs.declared.state.Place.{Place}
 use Rattle.printer.specs.declared.state.Printer.{Printer}
-use Rattle.printer.specs.declared.stops.Columns.{Columns}
-use Rattle.printer.specs.declared.stops.Lines.{Lines}
 use Rattle.printer.specs.declared.stops.Stops.{Stops}
+use Rattle.printer.specs.declared.stops.TabStops.{TabStops}
 use Rattle.ierbulosc.specs.Numbers.{flag, resolutionNumber, pitchNumber}
 use Rattle.ierbulosc.specs.Waits.{packWaiting}
 use Rattle.ierbulosc.specs.declared.state.State.{State}
-use Rattle.ierbulosc.specs.declared.state.StateColumns.{StateColumns}
 use Rattle.ierbulosc.specs.declared.state.StateFace.{StateFace}
-use Rattle.ierbulosc.specs.declared.state.StateLines.{StateLines}
 use Rattle.ierbulosc.specs.declared.state.StatePage.{StatePage}
 use Rattle.ierbulosc.specs.declared.state.StatePlace.{StatePlace}
 use Rattle.ierbulosc.specs.declared.state.StateSetup.{StateSetup}
 use Rattle.ierbulosc.specs.declared.state.StateStops.{StateStops}
 use Rattle.ierbulosc.specs.declared.state.StateStyle.{StateStyle}
+use Rattle.ierbulosc.specs.declared.state.StateTabStops.{StateTabStops}
 use Rattle.ierbulosc.specs.declared.state.StateWidth.{StateWidth}
 
 abbrev pub packSetup : Settings → StateSetup
@@ -70,20 +68,16 @@ packPage s =
 abbrev pub packPlace : Place → StatePlace
 packPlace x = record { across = acrossOf x; down = downOf x }
 
-abbrev pub packColumns : Columns → StateColumns
-packColumns c = record { stops = c .stops; count = c .count }
-
-abbrev pub packLines : Lines → StateLines
-packLines c = record { stops = c .stops; count = c .count }
+abbrev pub packList : TabStops → StateTabStops
+packList l = record { stops = l .stops; count = l .count }
 
 abbrev pub packStops : Stops → StateStops
 packStops t =
     record {
-      columns = packColumns (t .columns);
-      lines = packLines (t .lines);
+      columns = packList (t .columns);
+      lines = packList (t .lines);
       lineset = flag (t .lineset);
-      gatheredcolumns = packColumns (t .gatheredcolumns);
-      gatheredlines = packLines (t .gatheredlines);
+      gathered = packList (t .gathered);
     }
 
 unfoldable pub pack : Printer → State

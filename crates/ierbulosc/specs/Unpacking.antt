@@ -12,20 +12,18 @@ use Rattle.printer.specs.declared.settings.Setup.{Setup}
 use Rattle.printer.specs.declared.settings.Width.{Width}
 use Rattle.printer.specs.declared.state.Place.{Place}
 use Rattle.printer.specs.declared.state.Printer.{Printer}
-use Rattle.printer.specs.declared.stops.Columns.{Columns}
-use Rattle.printer.specs.declared.stops.Lines.{Lines}
 use Rattle.printer.specs.declared.stops.Stops.{Stops}
+use Rattle.printer.specs.declared.stops.TabStops.{TabStops}
 use Rattle.ierbulosc.specs.Numbers.{isSet, isFlag, resolutionOf, isResolution, pitchOf, isPitch}
 use Rattle.ierbulosc.specs.Waits.{waitingOf, validWaiting}
 use Rattle.ierbulosc.specs.declared.state.State.{State}
-use Rattle.ierbulosc.specs.declared.state.StateColumns.{StateColumns}
 use Rattle.ierbulosc.specs.declared.state.StateFace.{StateFace}
-use Rattle.ierbulosc.specs.declared.state.StateLines.{StateLines}
 use Rattle.ierbulosc.specs.declared.state.StatePage.{StatePage}
 use Rattle.ierbulosc.specs.declared.state.StatePlace.{StatePlace}
 use Rattle.ierbulosc.specs.declared.state.StateSetup.{StateSetup}
 use Rattle.ierbulosc.specs.declared.state.StateStops.{StateStops}
 use Rattle.ierbulosc.specs.declared.state.StateStyle.{StateStyle}
+use Rattle.ierbulosc.specs.declared.state.StateTabStops.{StateTabStops}
 use Rattle.ierbulosc.specs.declared.state.StateWidth.{StateWidth}
 use Rattle.ierbulosc.specs.declared.unpack.Unpacked.{Unpacked}
 
@@ -91,20 +89,16 @@ settingsOf s =
 abbrev pub placeOf : StatePlace → Place
 placeOf x = at (x .across) (x .down)
 
-abbrev pub columnsOf : StateColumns → Columns
-columnsOf c = record { stops = c .stops; count = c .count }
-
-abbrev pub linesOf : StateLines → Lines
-linesOf c = record { stops = c .stops; count = c .count }
+abbrev pub listOf : StateTabStops → TabStops
+listOf l = record { stops = l .stops; count = l .count }
 
 abbrev pub stopsOf : StateStops → Stops
 stopsOf t =
     record {
-      columns = columnsOf (t .columns);
-      lines = linesOf (t .lines);
+      columns = listOf (t .columns);
+      lines = listOf (t .lines);
       lineset = isSet (t .lineset);
-      gatheredcolumns = columnsOf (t .gatheredcolumns);
-      gatheredlines = linesOf (t .gatheredlines);
+      gathered = listOf (t .gathered);
     }
 
 unfoldable pub printerOf : State → Printer

@@ -1,5 +1,4 @@
 // The reader for C and Rust to link: the state as plain numbers, lent and updated.
-mod codes;
 mod numbers;
 pub mod pack;
 pub mod state;
@@ -11,8 +10,12 @@ use crate::state::State;
 use printer::answers::Answer;
 use printer::answers::Reading;
 use printer::answers::Started;
+use printer::settings::StartSettings;
 ghost use mathlib.Core.Path.{_≡_};
-ghost use Rattle.ierbulosc.specs.Calls.{packStarted, packReading, refused, stateStartOf, StatePromise, EscpReadPromise, EscpStartPromise};
+ghost use Rattle.ierbulosc.specs.Calls.{settingsOf, packStarted, packReading, refused, stateStartOf, StatePromise, EscpReadPromise, EscpStartPromise};
+
+// How many numbers a start's settings are: the fields of `escp_settings`, in their order.
+pub const SETTINGS: usize = 2;
 
 // What a start gives back: the answer's number and the state.
 pub struct StateStarted {
@@ -70,11 +73,29 @@ fn refused(state: State) -> StateReading
     }
 }
 
-// A start, with the state as numbers.
-pub fn start_state(dots: u32, autofeed: bool) -> StateStarted
-    ensures { λ r. ⌜ r ≡ stateStartOf dots autofeed ⌝ }
+// The settings by their numbers.
+fn settings_of(given: [u32; SETTINGS]) -> StartSettings
+    ensures { λ r. ⌜ r ≡ settingsOf given ⌝ }
 {
-    pack_started(reader::start(dots, autofeed))
+    StartSettings {
+        resolution: given[0],
+        autofeed: given[1] != 0,
+    }
+}
+
+// A start, with the state as numbers.
+pub fn start_state(settings: StartSettings) -> StateStarted
+    ensures { λ r. ⌜ r ≡ stateStartOf settings ⌝ }
+{
+    pack_started(reader::start(settings))
+}
+
+// The same, by settings that are lent as numbers.
+fn start_lent(settings: &[u32; SETTINGS]) -> StateStarted
+    ensures { λ r. ⌜ r ≡ stateStartOf (settingsOf (now (settings .entry))) ⌝ }
+{
+    let given = *settings;
+    start_state(settings_of(given))
 }
 
 // A reading, with the state as numbers.
@@ -92,10 +113,10 @@ pub fn read_state(state: State, input: &[u8], allowance: usize, out: &mut [u8]) 
 
 // Starts a printer at 300 or 203 dots; refuses any other resolution.
 #[no_mangle]
-pub extern "C" fn escp_start(state: &mut State, dots: u32, autofeed: bool) -> u8
-    ensures { λ r. ⌜ EscpStartPromise dots autofeed r (now (state .exit)) ⌝ }
+pub extern "C" fn escp_start(state: &mut State, settings: &[u32; SETTINGS]) -> u8
+    ensures { λ r. ⌜ EscpStartPromise (settingsOf (now (settings .entry))) r (now (state .exit)) ⌝ }
 {
-    let started = start_state(dots, autofeed);
+    let started = start_lent(settings);
     *state = started.state;
     started.answer
 }

@@ -1,14 +1,13 @@
 // The state as plain numbers, group by group.
 use crate::numbers;
 use crate::state::State;
-use crate::state::StateColumns;
 use crate::state::StateFace;
-use crate::state::StateLines;
 use crate::state::StatePage;
 use crate::state::StatePlace;
 use crate::state::StateSetup;
 use crate::state::StateStops;
 use crate::state::StateStyle;
+use crate::state::StateTabStops;
 use crate::state::StateWidth;
 use crate::waits;
 use printer::settings::Face;
@@ -16,11 +15,10 @@ use printer::settings::Settings;
 use printer::settings::Width;
 use printer::state::Place;
 use printer::state::Printer;
-use printer::stops::Columns;
-use printer::stops::Lines;
 use printer::stops::Stops;
+use printer::stops::TabStops;
 ghost use mathlib.Core.Path.{_≡_};
-ghost use Rattle.ierbulosc.specs.Packing.{packSetup, packWidth, packStyle, packFace, packPage, packPlace, packColumns, packLines, packStops, pack};
+ghost use Rattle.ierbulosc.specs.Packing.{packSetup, packWidth, packStyle, packFace, packPage, packPlace, packList, packStops, pack};
 
 fn pack_setup(s: Settings) -> StateSetup
     ensures { λ r. ⌜ r ≡ packSetup s ⌝ }
@@ -96,23 +94,13 @@ fn pack_place(x: Place) -> StatePlace
     }
 }
 
-fn pack_columns(c: Columns) -> StateColumns
-    ensures { λ r. ⌜ r ≡ packColumns c ⌝ }
+fn pack_list(l: TabStops) -> StateTabStops
+    ensures { λ r. ⌜ r ≡ packList l ⌝ }
 {
-    let stops = c.stops;
-    StateColumns {
+    let stops = l.stops;
+    StateTabStops {
         stops,
-        count: c.count,
-    }
-}
-
-fn pack_lines(c: Lines) -> StateLines
-    ensures { λ r. ⌜ r ≡ packLines c ⌝ }
-{
-    let stops = c.stops;
-    StateLines {
-        stops,
-        count: c.count,
+        count: l.count,
     }
 }
 
@@ -121,14 +109,12 @@ fn pack_stops(t: Stops) -> StateStops
 {
     let columns = t.columns;
     let lines = t.lines;
-    let gatheredcolumns = t.gatheredcolumns;
-    let gatheredlines = t.gatheredlines;
+    let gathered = t.gathered;
     StateStops {
-        columns: pack_columns(columns),
-        lines: pack_lines(lines),
+        columns: pack_list(columns),
+        lines: pack_list(lines),
         lineset: t.lineset as u8,
-        gatheredcolumns: pack_columns(gatheredcolumns),
-        gatheredlines: pack_lines(gatheredlines),
+        gathered: pack_list(gathered),
     }
 }
 

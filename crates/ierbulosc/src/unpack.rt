@@ -1,14 +1,13 @@
 // The state that numbers are read as, and whether they are those of a state.
 use crate::numbers;
 use crate::state::State;
-use crate::state::StateColumns;
 use crate::state::StateFace;
-use crate::state::StateLines;
 use crate::state::StatePage;
 use crate::state::StatePlace;
 use crate::state::StateSetup;
 use crate::state::StateStops;
 use crate::state::StateStyle;
+use crate::state::StateTabStops;
 use crate::state::StateWidth;
 use crate::waits;
 use printer::settings::Emphasis;
@@ -21,12 +20,11 @@ use printer::settings::Setup;
 use printer::settings::Width;
 use printer::state::Place;
 use printer::state::Printer;
-use printer::stops::Columns;
-use printer::stops::Lines;
 use printer::stops::Stops;
+use printer::stops::TabStops;
 use printer::units::Units;
 ghost use mathlib.Core.Path.{_≡_};
-ghost use Rattle.ierbulosc.specs.Unpacking.{setupOf, widthOf, emphasisOf, scriptOf, faceOf, marginsOf, paperOf, settingsOf, placeOf, columnsOf, linesOf, stopsOf, printerOf, validSetup, validWidth, validStyle, validFace, valid, unpack};
+ghost use Rattle.ierbulosc.specs.Unpacking.{setupOf, widthOf, emphasisOf, scriptOf, faceOf, marginsOf, paperOf, settingsOf, placeOf, listOf, stopsOf, printerOf, validSetup, validWidth, validStyle, validFace, valid, unpack};
 
 // The state, if the numbers are those of one. (No enum, since it would hold the state's arrays.)
 pub struct Unpacked {
@@ -138,23 +136,13 @@ fn place_of(x: StatePlace) -> Place
     }
 }
 
-fn columns_of(c: StateColumns) -> Columns
-    ensures { λ r. ⌜ r ≡ columnsOf c ⌝ }
+fn list_of(l: StateTabStops) -> TabStops
+    ensures { λ r. ⌜ r ≡ listOf l ⌝ }
 {
-    let stops = c.stops;
-    Columns {
+    let stops = l.stops;
+    TabStops {
         stops,
-        count: c.count,
-    }
-}
-
-fn lines_of(c: StateLines) -> Lines
-    ensures { λ r. ⌜ r ≡ linesOf c ⌝ }
-{
-    let stops = c.stops;
-    Lines {
-        stops,
-        count: c.count,
+        count: l.count,
     }
 }
 
@@ -163,14 +151,12 @@ fn stops_of(t: StateStops) -> Stops
 {
     let columns = t.columns;
     let lines = t.lines;
-    let gatheredcolumns = t.gatheredcolumns;
-    let gatheredlines = t.gatheredlines;
+    let gathered = t.gathered;
     Stops {
-        columns: columns_of(columns),
-        lines: lines_of(lines),
+        columns: list_of(columns),
+        lines: list_of(lines),
         lineset: t.lineset == 1,
-        gatheredcolumns: columns_of(gatheredcolumns),
-        gatheredlines: lines_of(gatheredlines),
+        gathered: list_of(gathered),
     }
 }
 

@@ -10,7 +10,8 @@ use lib.ListN.{length, length-append}
 use Rattle.printer.specs.Records.{recordSize, roomForByte}
 use Rattle.printer.specs.Bounds.{accepted}
 use Rattle.printer.specs.Steps.{stepOf, stepRecords}
-use Rattle.printer.specs.Calls.{Run, runOf, callOf, ReadPromise}
+use Rattle.printer.specs.Calls.{Run, runOf, callOf}
+use Rattle.printer.specs.Promises.{ReadPromise}
 use Rattle.printer.specs.declared.answers.Reading.{Reading}
 use Rattle.printer.specs.declared.state.Printer.{Printer}
 use Rattle.printer.proofs.Choices.{pick-elim}

@@ -16,7 +16,7 @@ use Rattle.printer.proofs.Choices.{bytes-take, bytes-append, either-elim, eithe
 use Rattle.printer.proofs.Accepting.{fact-accepted}
 use Rattle.printer.proofs.KeepingSteps.{Ours, steps-ours}
 use Rattle.listing.specs.Showing.{Shown, SomeShown, FromInput}
-use Rattle.listing.specs.declared.Part.{Part}
+use Rattle.listing.specs.declared.Progress.{Progress}
 
 state-append : (p : Printer) (x y : List ℕ) → stateAfter p (x ++ y) ≡ stateAfter (stateAfter p x) y
 unfolding stateAfter
@@ -62,14 +62,14 @@ goes-on f m t = let z = eqb-false m 0 (either-right f (eqb m 0) t) in omega arit
 -- A turn: what is left of the piece is shown in part
 
 module _ {p q : Printer} {input : List ℕ} {n : ℕ} (g : Shown p input q n)
-    {part : Part} (h : SomeShown q (take (length input - n) (drop n input)) part) where
-  rest-shown : SomeShown q (drop n input) part
+    {progress : Progress} (h : SomeShown q (take (length input - n) (drop n input)) progress) where
+  rest-shown : SomeShown q (drop n input) progress
   rest-shown = let k = length-drop n input in rw (take-all (length input - n) (drop n input) (omega arith)) at h
 
-  pub turn-shown : Shown p input (part .printer) (n + part .read)
+  pub turn-shown : Shown p input (progress .printer) (n + progress .read)
   turn-shown = shown-more g (rest-shown .shown)
 
-  pub turn-some : Bytes input → Ours p → n < length input → 0 < part .read
+  pub turn-some : Bytes input → Ours p → n < length input → 0 < progress .read
   turn-some b o l = rest-shown .some (shown-accepted g b o) (omega (arith, length-drop n input))
 
 -- Input from outside

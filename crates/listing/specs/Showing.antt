@@ -9,7 +9,7 @@ use Rattle.printer.specs.Tools.{Bytes}
 use Rattle.printer.specs.Bounds.{accepted}
 use Rattle.printer.specs.Steps.{stateAfter}
 use Rattle.printer.specs.declared.state.Printer.{Printer}
-use Rattle.listing.specs.declared.Part.{Part}
+use Rattle.listing.specs.declared.Progress.{Progress}
 
 -- so many bytes of the input are read, none on a refused state
 pub record Shown (p : Printer) (input : List ℕ) (after : Printer) (read : ℕ) : Type 0 where
@@ -18,12 +18,12 @@ pub record Shown (p : Printer) (input : List ℕ) (after : Printer) (read : ℕ)
   pub refused : accepted p ≡ false → read ≡ 0
 
 -- by one call: a byte at least, if there is one
-pub record SomeShown (p : Printer) (input : List ℕ) (back : Part) : Type 0 where
+pub record SomeShown (p : Printer) (input : List ℕ) (back : Progress) : Type 0 where
   pub shown : Shown p input (back .printer) (back .read)
   pub some : accepted p ≡ true → 0 < length input → 0 < back .read
 
 -- a piece of bytes: all of it, if writing did not fail
-pub record AllShown (p : Printer) (input : List ℕ) (back : Part) : Type 0 where
+pub record AllShown (p : Printer) (input : List ℕ) (back : Progress) : Type 0 where
   pub shown : Shown p input (back .printer) (back .read)
   pub bytes : Bytes input
   pub all : accepted p ≡ true → back .failed ≡ false → back .read ≡ length input

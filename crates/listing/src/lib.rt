@@ -1,14 +1,12 @@
 // ESC/P read from standard input, piece by piece, and a line for each record written to standard output: what the programs share.
 use libc::STDIN_FILENO;
 use libc::STDOUT_FILENO;
-use lines::hex;
-use lines::hex_lines;
 use printer::answers::Reading;
 use printer::records::Record;
 use printer::state::Printer;
 ghost use Prim.Native.Nat.{_≤_};
 ghost use lib.ListN.{length};
-ghost use Rattle.printer.specs.Calls.{ReadPromise};
+ghost use Rattle.printer.specs.Promises.{ReadPromise};
 ghost use Rattle.listing.specs.Showing.{SomeShown, AllShown, FromInput, pieceSize};
 
 // The most bytes of a piece of input.
@@ -19,7 +17,7 @@ const MOST: usize = 1024;
 
 // What is left after some input: the state, how many bytes were read, and whether writing failed. No contract of the kit says when writing
 // fails, so none here does: the flag is io::write_all's own answer.
-pub struct Part {
+pub struct Progress {
     pub printer: Printer,
     pub read: usize,
     pub failed: bool,
@@ -34,7 +32,7 @@ pub fn read(printer: Printer, input: &[u8], out: &mut [u8]) -> Reading
 }
 
 // Reads as much as there is room for, and writes the lines of its records.
-pub fn show_some(printer: Printer, input: &[u8]) -> Part
+pub fn show_some(printer: Printer, input: &[u8]) -> Progress
     ensures { λ r. ⌜ SomeShown printer (now (input .entry)) r ⌝ }
 {
     let mut records = [0u8; MOST * Record::SIZE];
@@ -43,9 +41,9 @@ pub fn show_some(printer: Printer, input: &[u8]) -> Part
     let report = reading.report;
     let next = reading.printer;
     let written = report.written;
-    let size = hex_lines(&records[0..written], &mut text);
+    let size = hex::lines(&records[0..written], &mut text);
     let wrote = io::write_all(STDOUT_FILENO, &text[0..size]);
-    Part {
+    Progress {
         printer: next,
         read: report.read,
         failed: !wrote,
@@ -53,25 +51,25 @@ pub fn show_some(printer: Printer, input: &[u8]) -> Part
 }
 
 // Shows a piece of input to its end, or until writing fails.
-pub fn show(printer: Printer, input: &[u8]) -> Part
+pub fn show(printer: Printer, input: &[u8]) -> Progress
     ensures { λ r. ⌜ AllShown printer (now (input .entry)) r ⌝ }
 {
     let mut p = printer;
     let mut at = 0;
     while at < input.len() {
-        let part = show_some(p, &input[at..]);
-        let next = part.printer;
+        let progress = show_some(p, &input[at..]);
+        let next = progress.printer;
         p = next;
-        at += part.read;
-        if part.failed | (part.read == 0) {
-            return Part {
+        at += progress.read;
+        if progress.failed | (progress.read == 0) {
+            return Progress {
                 printer: p,
                 read: at,
-                failed: part.failed,
+                failed: progress.failed,
             };
         }
     }
-    Part {
+    Progress {
         printer: p,
         read: at,
         failed: false,
@@ -79,7 +77,7 @@ pub fn show(printer: Printer, input: &[u8]) -> Part
 }
 
 // Reads a piece, of whatever size it comes in, and shows it. That the piece is what standard input has next is left to these lines.
-fn take_piece(printer: Printer) -> Part
+fn take_piece(printer: Printer) -> Progress
     ensures { λ r. ⌜ FromInput printer (r .printer) (r .read) ⌝ }
     ensures { λ r. ⌜ r .read ≤ pieceSize ⌝ }
 {
@@ -89,34 +87,34 @@ fn take_piece(printer: Printer) -> Part
         os::fail(b"escp: standard input");
     }
     let n = io::count(got, &piece);
-    let part = show(printer, &piece[0..n]);
-    if part.failed {
+    let progress = show(printer, &piece[0..n]);
+    if progress.failed {
         os::fail(b"escp: standard output");
     }
-    part
+    progress
 }
 
 // Takes pieces until none comes or writing fails. That it goes on until then is left to these lines; the bytes are counted, since nothing
 // says that the input ends.
-pub fn run(printer: Printer) -> Part
+pub fn run(printer: Printer) -> Progress
     ensures { λ r. ⌜ FromInput printer (r .printer) (r .read) ⌝ }
 {
     let mut p = printer;
     let mut read: usize = 0;
     while read < usize::MAX - PIECE {
-        let part = take_piece(p);
-        let next = part.printer;
+        let progress = take_piece(p);
+        let next = progress.printer;
         p = next;
-        read += part.read;
-        if part.failed | (part.read == 0) {
-            return Part {
+        read += progress.read;
+        if progress.failed | (progress.read == 0) {
+            return Progress {
                 printer: p,
                 read,
-                failed: part.failed,
+                failed: progress.failed,
             };
         }
     }
-    Part {
+    Progress {
         printer: p,
         read,
         failed: false,

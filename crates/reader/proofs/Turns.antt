@@ -12,18 +12,20 @@ use borrow.Rule.Slice.PartMut.{midOf, putMid}
 use Rattle.printer.specs.Tools.{Bytes}
 use Rattle.printer.specs.Records.{recordSize, roomForByte}
 use Rattle.printer.specs.Steps.{stateAfter, recordsOver}
-use Rattle.printer.specs.Calls.{Run, stopped, runOf, callOf, ReadPromise}
+use Rattle.printer.specs.Calls.{Run, stopped, runOf, callOf}
+use Rattle.printer.specs.Promises.{ReadPromise}
 use Rattle.printer.specs.declared.answers.Answer.{Answer}
 use Rattle.printer.specs.declared.records.Record.{Record}
 use Rattle.printer.specs.declared.state.Printer.{Printer}
 use Rattle.printer.proofs.Choices.{bytes-take, bytes-rest}
 use Rattle.printer.proofs.Accepting.{fact-accepted}
+use Rattle.printer.proofs.Answering.{read-promise}
 use Rattle.printer.proofs.KeepingSteps.{Ours, steps-ours}
 use Rattle.steps.specs.Output.{Written}
-use Rattle.steps.specs.Parts.{Roomy, PartPromise}
-use Rattle.steps.specs.declared.Part.{Part}
+use Rattle.steps.specs.Taking.{RoomForEach, TakenPromise}
+use Rattle.steps.specs.declared.Taken.{Taken}
 use Rattle.steps.proofs.Writes.{none, more, lent, same-length}
-use Rattle.steps.proofs.Runs.{after, reads, part-fits, run-part}
+use Rattle.steps.proofs.Runs.{after, reads, taken-fits, run-taken}
 use Rattle.reader.specs.Parts.{reading}
 
 -- the invariant: of a call's input, allowance, output and state, and of the output and the state now, the bytes read, the
@@ -70,7 +72,7 @@ module _
       let n : written ≡ recordSize * length (g .records) = omega (arith, g .wrote .place) in
       let w : callOf p₀ input allowance (length out₀) ≡ record { answer = a; printer = p; read = at; records = g .records } =
       g .whole ∙ rw e (simp (add-zero, append-nil)) in
-      record { gives = rw (w, n); output = rw (w, ← n) (g .wrote .bytes) }
+      read-promise _ _ _ _ _ _ (rw (w, n)) (rw (w, ← n) (g .wrote .bytes))
 
   pub input-used : at ≡ length input → Keeps Answer.InputUsed
   unfolding runOf
@@ -97,8 +99,8 @@ module _
           ends Answer.OutputFull (rw (next, reads p Byte _ left Room some-allowance, lt-ltb Room roomForByte k))
 
   -- a turn more, after a part of so much input as the allowance covers
-  module _ {m : ℕ} (e : m ≡ min left (length input - at)) {back : Part} {zs : List ℕ}
-      (v : PartPromise p (take (at + m - at) (drop at input)) (midOf written (length out - written) out) back zs) where
+  module _ {m : ℕ} (e : m ≡ min left (length input - at)) {back : Taken} {zs : List ℕ}
+      (v : TakenPromise p (take (at + m - at) (drop at input)) (midOf written (length out - written) out) back zs) where
     abbrev Read : List ℕ
     Read = take (back .read) (drop at input)
 
@@ -117,8 +119,8 @@ module _
     room-of-part : length (midOf written (length out - written) out) ≡ Room
     room-of-part = simp (length-take, length-drop) (omega (arith, long))
 
-    roomy : Roomy p Read Room
-    roomy = rw (← same-part, ← room-of-part) (v .roomy)
+    enough : RoomForEach p Read Room
+    enough = rw (← same-part, ← room-of-part) (v .enough)
 
     -- the run, after the part
     rest : runOf p (drop at input) left Room
@@ -127,13 +129,13 @@ module _
     rest =
         let n : length Read ≡ back .read = length-take-le (back .read) (drop at input) (simp length-drop (omega (arith, limits))) in
         ap (λ (l : List ℕ). runOf p l left Room) (sym (rw drop-drop at (take-append-drop (back .read) (drop at input))))
-        ∙ rw n at (run-part p Read (drop (at + back .read) input) left Room (omega (arith, n, within-allowance)) roomy)
+        ∙ rw n at (run-taken p Read (drop (at + back .read) input) left Room (omega (arith, n, within-allowance)) enough)
 
     wrote-part : Written out written (recordsOver p Read) (written + back .written) (putMid written (length out - written) out zs)
     wrote-part = lent (omega (arith, g .fits, long)) (rw same-part at (v .wrote))
 
     pub within-output : written + back .written ≤ length out₀
-    within-output = omega (arith, wrote-part .place, g .fits, part-fits p Read Room roomy)
+    within-output = omega (arith, wrote-part .place, g .fits, taken-fits p Read Room enough)
 
     pub goes-on : Bytes input
         → Going input allowance out₀ p₀ (putMid written (length out - written) out zs) (back .printer)

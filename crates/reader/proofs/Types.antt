@@ -8,16 +8,18 @@ use mir.Val.{Val}
 use denote.Builtin.{u8}
 use denote.Laws.{Is}
 use Rattle.printer.specs.Tools.{Bytes}
-use Rattle.printer.specs.Bounds.{waitingTyped, StopsTyped, Typed}
+use Rattle.printer.specs.Accepted.{waitingTyped, StopsTyped, Typed}
+use Rattle.printer.specs.Codes.{begunBy}
+use Rattle.printer.specs.declared.commands.Begun.{Begun}
 use Rattle.printer.specs.declared.commands.Waiting.{Waiting}
 use Rattle.printer.specs.declared.state.Printer.{Printer}
-use Rattle.printer.specs.declared.stops.Columns.{Columns}
-use Rattle.printer.specs.declared.stops.Lines.{Lines}
 use Rattle.printer.specs.declared.stops.Stops.{Stops}
+use Rattle.printer.specs.declared.stops.TabStops.{TabStops}
+use Rattle.printer.proofs.Listed.{one-byte, two-byte}
+use Rattle.printer.proofs.commands.Begun as B
 use Rattle.printer.proofs.commands.Waiting as W
-use Rattle.printer.proofs.stops.Columns as C
-use Rattle.printer.proofs.stops.Lines as L
 use Rattle.printer.proofs.stops.Stops as S
+use Rattle.printer.proofs.stops.TabStops as T
 use Rattle.printer.proofs.state.Printer as P
 
 byte : {n : ℕ} {vs : List Val} → Is u8 n vs → n ≤ 255
@@ -28,30 +30,29 @@ pub known-bytes : (l : List ℕ) → ((i : ℕ) → getD l i 0 ≤ 255) → Byte
 known-bytes [] h = tt
 known-bytes (b ∷ l) h = (h 0, known-bytes l (λ i. h (suc i)))
 
-columns : (x : Columns) {vs : List Val} → Is C.the-row x vs → length (x .stops) ≡ 32
-columns x h = simp length-map at (h .1 .1 .0 .1 .0 .1)
-
-lines : (x : Lines) {vs : List Val} → Is L.the-row x vs → length (x .stops) ≡ 16
-lines x h = simp length-map at (h .1 .1 .0 .1 .0 .1)
+list : (l : TabStops) {vs : List Val} → Is T.the-row l vs → length (l .stops) ≡ 32
+list l h = simp length-map at (h .1 .1 .0 .1 .0 .1)
 
 stops : (t : Stops) {vs : List Val} → Is S.the-row t vs → StopsTyped t
 stops t h =
     let f = h .1 .1 in
     record {
-      columns = columns (t .columns) (f .0);
-      lines = lines (t .lines) (f .1 .0);
-      gatheredcolumns = columns (t .gatheredcolumns) (f .1 .1 .1 .0);
-      gatheredlines = lines (t .gatheredlines) (f .1 .1 .1 .1 .0);
+      columns = list (t .columns) (f .0);
+      lines = list (t .lines) (f .1 .0);
+      gathered = list (t .gathered) (f .1 .1 .1 .0);
     }
+
+begun : (w : Begun) {vs : List Val} → Is B.the-row w vs → Bytes (begunBy w)
+begun (Begun.One c) h = (one-byte c, tt)
+begun Begun.PageLength h = (omega arith, tt)
+begun Begun.PageInches h = (omega arith, (omega arith, tt))
+begun (Begun.FirstOf c) h = (two-byte c, tt)
+begun (Begun.SecondOf c a) h = (two-byte c, (byte (h .1 .1 .1 .1 .1 .0), tt))
 
 waiting : (w : Waiting) {vs : List Val} → Is W.the-row w vs → waitingTyped w
 waiting Waiting.Nothing h = tt
 waiting Waiting.SecondByte h = tt
-waiting (Waiting.Argument c) h = tt
-waiting Waiting.PageLength h = tt
-waiting Waiting.PageInches h = tt
-waiting (Waiting.FirstOf c) h = tt
-waiting (Waiting.SecondOf c a) h = byte (h .1 .1 .1 .1 .1 .0)
+waiting (Waiting.Arguments w) h = begun w (h .1 .1 .1 .1 .0)
 waiting (Waiting.StopList k b) h = byte (h .1 .1 .1 .1 .1 .0)
 waiting (Waiting.ImageData d n) h = tt
 

@@ -4,18 +4,20 @@ use printer::answers::Reading;
 use printer::answers::Report;
 use printer::answers::Started;
 use printer::settings::Setup;
+use printer::settings::StartSettings;
 use printer::state::Printer;
 use printer::units::Resolution;
 use steps::ROOM;
 ghost use mathlib.Core.Path.{_≡_};
 ghost use Prim.Native.Nat.{min};
-ghost use Rattle.printer.specs.Bounds.{Accepted};
-ghost use Rattle.printer.specs.Calls.{setup, started, StartPromise, ReadPromise, LentPromise};
+ghost use Rattle.printer.specs.Accepted.{Accepted};
+ghost use Rattle.printer.specs.Calls.{setup, startedWith};
+ghost use Rattle.printer.specs.Promises.{StartPromise, ReadPromise, LentPromise};
 ghost use Rattle.reader.specs.Parts.{reading};
 
 // The power-on state for the settings, with an answer.
 fn started(answer: Answer, resolution: Resolution, autofeed: bool) -> Started
-    ensures { λ r. ⌜ r ≡ started answer (setup resolution autofeed) ⌝ }
+    ensures { λ r. ⌜ r ≡ startedWith answer (setup resolution autofeed) ⌝ }
 {
     let setup = Setup {
         resolution,
@@ -28,9 +30,11 @@ fn started(answer: Answer, resolution: Resolution, autofeed: bool) -> Started
 }
 
 // Starts at 300 or 203 dots; refuses any other resolution.
-pub fn start(resolution: u32, autofeed: bool) -> Started
-    ensures { λ r. ⌜ StartPromise resolution autofeed r ⌝ }
+pub fn start(settings: StartSettings) -> Started
+    ensures { λ r. ⌜ StartPromise settings r ⌝ }
 {
+    let resolution = settings.resolution;
+    let autofeed = settings.autofeed;
     if resolution == 300 {
         return started(Answer::InputUsed, Resolution::Dots300, autofeed);
     }
@@ -59,7 +63,7 @@ fn reading(answer: Answer, printer: Printer, read: usize, written: usize) -> Rea
     Reading { report, printer }
 }
 
-// Reads part by part, until the input or the allowance is used up or the output has no room for a byte's records.
+// Reads turn by turn, until the input or the allowance is used up or the output has no room for a byte's records.
 fn run(printer: Printer, input: &[u8], allowance: usize, out: &mut [u8]) -> Reading
     requires { ⌜ Accepted printer ⌝ }
     ensures { λ r. ⌜ ReadPromise printer (now (input .entry)) allowance (now (out .entry)) r (now (out .exit)) ⌝ }
@@ -80,12 +84,12 @@ fn run(printer: Printer, input: &[u8], allowance: usize, out: &mut [u8]) -> Read
             return reading(Answer::OutputFull, p, at, written);
         }
         let stop = at + least(left, input.len() - at);
-        let part = steps::read_part(p, &input[at..stop], &mut out[written..]);
-        let next = part.printer;
+        let taken = steps::turn(p, &input[at..stop], &mut out[written..]);
+        let next = taken.printer;
         p = next;
-        at += part.read;
-        left -= part.read;
-        written += part.written;
+        at += taken.read;
+        left -= taken.read;
+        written += taken.written;
     }
 }
 

@@ -2,9 +2,10 @@
 use Prim.Native.Nat.{ℕ}
 use mathlib.Core.List.{[], _∷_}
 use Rattle.printer.specs.Tools.{pick, _upTo_, holds}
-use Rattle.printer.specs.Settings.{acrossOf, at}
-use Rattle.printer.specs.Records.{feedRecord, passedRecord, newTop}
-use Rattle.printer.specs.Performing.{withPage, withParts}
+use Rattle.printer.specs.Units.{shortestPage, longestPage}
+use Rattle.printer.specs.Settings.{acrossOf, at, withPage}
+use Rattle.printer.specs.Records.{feedRecord, passedRecord, newTop, pastLimits}
+use Rattle.printer.specs.Performing.{withParts}
 use Rattle.printer.specs.declared.settings.Settings.{Settings}
 use Rattle.printer.specs.declared.state.Printer.{Printer}
 use Rattle.writing.specs.Outcome.{stepped}
@@ -22,6 +23,6 @@ newPage p n =
 -- a page of 3,600 to 79,200 units, or passed over
 abbrev pub pageLength : Printer → ℕ → Stepped
 pageLength p n =
-    pick (holds (_upTo_ 3600 n ∷ _upTo_ n 79200 ∷ []))
+    pick (holds ((shortestPage upTo n) ∷ (n upTo longestPage) ∷ []))
     (newPage p n)
-    (stepped p (Output.One (passedRecord 0x43 3)))
+    (stepped p (Output.One (passedRecord 0x43 pastLimits)))

@@ -2,31 +2,31 @@
 use printer::settings::Settings;
 ghost use mathlib.Core.Path.{_≡_};
 ghost use lib.Dec.{eqb};
-ghost use Rattle.printer.specs.Settings.{withEmphasis, withBold, withDoubleStrike, withItalic, withUnderline, withScript, withFace, withFont, withCountry, withOutline, withDoubleHeight, withItalicTable, withDownload, withDraft, withUpperPrints};
+ghost use Rattle.printer.specs.Settings.{withBold, withDoubleStrike, withItalic, withUnderline, withScript, withFont, withCountry, withOutline, withDoubleHeight, withItalicTable, withDownload, withDraft, withUpperPrints};
 
 pub(crate) fn bold(mut s: Settings, on: bool) -> Settings
-    ensures { λ r. ⌜ r ≡ withEmphasis s (withBold (s .emphasis) on) ⌝ }
+    ensures { λ r. ⌜ r ≡ withBold s on ⌝ }
 {
     s.emphasis.bold = on;
     s
 }
 
 pub(crate) fn double_strike(mut s: Settings, on: bool) -> Settings
-    ensures { λ r. ⌜ r ≡ withEmphasis s (withDoubleStrike (s .emphasis) on) ⌝ }
+    ensures { λ r. ⌜ r ≡ withDoubleStrike s on ⌝ }
 {
     s.emphasis.doublestrike = on;
     s
 }
 
 pub(crate) fn italic(mut s: Settings, on: bool) -> Settings
-    ensures { λ r. ⌜ r ≡ withEmphasis s (withItalic (s .emphasis) on) ⌝ }
+    ensures { λ r. ⌜ r ≡ withItalic s on ⌝ }
 {
     s.emphasis.italic = on;
     s
 }
 
 pub(crate) fn underline(mut s: Settings, on: bool) -> Settings
-    ensures { λ r. ⌜ r ≡ withEmphasis s (withUnderline (s .emphasis) on) ⌝ }
+    ensures { λ r. ⌜ r ≡ withUnderline s on ⌝ }
 {
     s.emphasis.underline = on;
     s
@@ -41,28 +41,28 @@ pub(crate) fn script(mut s: Settings, up: bool, down: bool) -> Settings
 }
 
 pub(crate) fn font(mut s: Settings, n: u8) -> Settings
-    ensures { λ r. ⌜ r ≡ withFace s (withFont (s .face) n) ⌝ }
+    ensures { λ r. ⌜ r ≡ withFont s n ⌝ }
 {
     s.face.font = n;
     s
 }
 
 pub(crate) fn country(mut s: Settings, n: u8) -> Settings
-    ensures { λ r. ⌜ r ≡ withFace s (withCountry (s .face) n) ⌝ }
+    ensures { λ r. ⌜ r ≡ withCountry s n ⌝ }
 {
     s.face.country = n;
     s
 }
 
 pub(crate) fn outline(mut s: Settings, n: u8) -> Settings
-    ensures { λ r. ⌜ r ≡ withFace s (withOutline (s .face) n) ⌝ }
+    ensures { λ r. ⌜ r ≡ withOutline s n ⌝ }
 {
     s.face.outline = n;
     s
 }
 
 pub(crate) fn double_height(mut s: Settings, on: bool) -> Settings
-    ensures { λ r. ⌜ r ≡ withFace s (withDoubleHeight (s .face) on) ⌝ }
+    ensures { λ r. ⌜ r ≡ withDoubleHeight s on ⌝ }
 {
     s.face.doubleheight = on;
     s
@@ -70,7 +70,7 @@ pub(crate) fn double_height(mut s: Settings, on: bool) -> Settings
 
 // ESC t: table 0 is the italic one.
 pub(crate) fn code_table(mut s: Settings, n: u8) -> Settings
-    ensures { λ r. ⌜ r ≡ withFace s (withItalicTable (s .face) (eqb n 0)) ⌝ }
+    ensures { λ r. ⌜ r ≡ withItalicTable s (eqb n 0) ⌝ }
 {
     let italic = n == 0;
     s.face.italictable = italic;
@@ -78,7 +78,7 @@ pub(crate) fn code_table(mut s: Settings, n: u8) -> Settings
 }
 
 pub(crate) fn download(mut s: Settings, on: bool) -> Settings
-    ensures { λ r. ⌜ r ≡ withFace s (withDownload (s .face) on) ⌝ }
+    ensures { λ r. ⌜ r ≡ withDownload s on ⌝ }
 {
     s.face.download = on;
     s

@@ -1,22 +1,26 @@
 // The commands that change settings: the escapes without an argument, those with one, ESC C and ESC @.
+use printer::commands::Choice;
+use printer::commands::Look;
 use printer::commands::Mode;
+use printer::commands::Page;
 use printer::commands::Parameter;
 use printer::settings::Settings;
 use printer::state::Printer;
 use writing::Stepped;
 ghost use mathlib.Core.Path.{_≡_};
+ghost use mathlib.Core.Bool.{true, false};
 ghost use mathlib.Core.List.{[], _∷_};
 ghost use Rattle.printer.specs.Tools.{within, holds};
-ghost use Rattle.printer.specs.Settings.{withWidth, withReduced};
-ghost use Rattle.printer.specs.Performing.{done, endWideOnce, controlSettings, withParts};
-ghost use Rattle.printer.specs.Deciding.{reducedNeeds, inRange, attempt, ranged};
+ghost use Rattle.printer.specs.Settings.{withWidth, withWideOnce, withReduced};
+ghost use Rattle.printer.specs.Escapes.{parameterRow, choiceRow, lookTakes};
+ghost use Rattle.printer.specs.Performing.{done, withParts};
+ghost use Rattle.printer.specs.Deciding.{reducedNeeds, pageRange, attempt, ranged};
 ghost use Rattle.printer.specs.declared.commands.Command.{Command};
-ghost use Rattle.printer.specs.declared.commands.Control.{Control};
 ghost use Rattle.writing.specs.Outcome.{stepped, Outcome};
 ghost use Rattle.writing.specs.declared.Output.{Output};
 ghost use Rattle.settings.specs.Page.{pageLength};
 
-pub mod codes;
+mod arguments;
 mod letters;
 mod master;
 mod modes;
@@ -26,14 +30,14 @@ mod width;
 
 // SO ends.
 pub fn end_wide_once(s: Settings) -> Settings
-    ensures { λ r. ⌜ r ≡ endWideOnce s ⌝ }
+    ensures { λ r. ⌜ r ≡ withWideOnce s false ⌝ }
 {
     width::wide_once(s, false)
 }
 
 // SO: double width for one line.
 pub fn wide_once(s: Settings) -> Settings
-    ensures { λ r. ⌜ r ≡ controlSettings s Control.ShiftOut ⌝ }
+    ensures { λ r. ⌜ r ≡ withWideOnce s true ⌝ }
 {
     width::wide_once(s, true)
 }
@@ -62,25 +66,22 @@ fn changed(p: Printer, s: Settings) -> Stepped
 
 // The escapes without an argument.
 pub fn mode(p: Printer, m: Mode) -> Stepped
-    ensures { λ r. ⌜ Outcome p (attempt p (Command.Mode m) 2 ∷ []) r ⌝ }
+    ensures { λ r. ⌜ Outcome p (done (Command.Mode m) 0 ∷ []) r ⌝ }
 {
     let s = p.settings;
-    let allowed = modes::allowed(s, m);
-    if allowed {
-        return changed(p, modes::mode_settings(s, m));
-    }
-    writing::passed(p, codes::mode_code(m), 2)
+    changed(p, modes::mode_settings(s, m))
 }
 
-// ESC N: a skip of n lines, if 3,600 units are left and the place is before the new edge.
-fn skip(p: Printer, n: u8) -> Stepped
-    ensures { λ r. ⌜ Outcome p (attempt p (Command.Parameter Parameter.Skip n) 3 ∷ []) r ⌝ }
+// ESC N in its range: a skip of n lines, if 3,600 units are left and the place is before the new edge.
+fn attempt_skip(p: Printer, n: u8) -> Stepped
+    ensures { λ r. ⌜ Outcome p (attempt p (Command.Skip n) 3 ∷ []) r ⌝ }
 {
     let s = p.settings;
     let page = s.paper.page;
     let down = p.place.down;
     let skip = paper::lines(s, n);
-    let left = 3600 + skip <= page.0 as u64;
+    let least = Printer::LEAST_PAGE;
+    let left = least.0 as u64 + skip <= page.0 as u64;
     let fits = down.0 as u64 + skip < page.0 as u64;
     if left & fits {
         return changed(p, paper::skip(s, skip as u32));
@@ -88,26 +89,52 @@ fn skip(p: Printer, n: u8) -> Stepped
     writing::passed(p, b'N', 3)
 }
 
-// An escape with one argument that is in its range.
-fn attempt_parameter(p: Printer, c: Parameter, n: u8) -> Stepped
-    ensures { λ r. ⌜ Outcome p (attempt p (Command.Parameter c n) 3 ∷ []) r ⌝ }
+// ESC N.
+pub fn skip(p: Printer, n: u8) -> Stepped
+    ensures { λ r. ⌜ Outcome p (ranged (within 1 127 n) (Command.Skip n) (attempt p (Command.Skip n) 3) ∷ []) r ⌝ }
 {
-    let s = p.settings;
-    match c {
-        Parameter::Skip => skip(p, n),
-        _ => changed(p, parameters::parameter_settings(s, c, n)),
+    let fits = (1 <= n) & (n <= 127);
+    if fits {
+        return attempt_skip(p, n);
     }
+    writing::passed(p, b'N', 2)
 }
 
-// The escapes with one argument.
+// The escapes with one argument that change a setting.
 pub fn parameter(p: Printer, c: Parameter, n: u8) -> Stepped
-    ensures { λ r. ⌜ Outcome p (ranged (inRange c n) (Command.Parameter c n) (attempt p (Command.Parameter c n) 3) ∷ []) r ⌝ }
+    ensures { λ r. ⌜ Outcome p (ranged (parameterRow c .takes n) (Command.Parameter c n) (done (Command.Parameter c n) 0) ∷ []) r ⌝ }
 {
-    let fits = parameters::in_range(c, n);
-    if fits {
-        return attempt_parameter(p, c, n);
+    let s = p.settings;
+    let taking = parameters::parameter(s, c, n);
+    let after = taking.settings;
+    if taking.takes {
+        return changed(p, after);
     }
-    writing::passed(p, codes::parameter_code(c), 2)
+    writing::passed(p, framing::codes::parameter_code(c), 2)
+}
+
+// Those that only show on a letter's record.
+fn choice(p: Printer, c: Choice, n: u8) -> Stepped
+    ensures { λ r. ⌜ Outcome p (ranged (choiceRow c .takes n) (Command.Look (Look.Choice c n)) (done (Command.Look (Look.Choice c n)) 0) ∷ []) r ⌝ }
+{
+    let s = p.settings;
+    let taking = parameters::choice(s, c, n);
+    let after = taking.settings;
+    if taking.takes {
+        return changed(p, after);
+    }
+    writing::passed(p, framing::codes::choice_code(c), 2)
+}
+
+// What only shows on a letter's record.
+pub fn look(p: Printer, k: Look) -> Stepped
+    ensures { λ r. ⌜ Outcome p (ranged (lookTakes k) (Command.Look k) (done (Command.Look k) 0) ∷ []) r ⌝ }
+{
+    let s = p.settings;
+    match k {
+        Look::Switch(w) => changed(p, modes::switch_settings(s, w)),
+        Look::Choice(c, n) => choice(p, c, n),
+    }
 }
 
 // ESC C: a page of this length, if it is one to 22 inches.
@@ -123,8 +150,8 @@ fn page_length(p: Printer, length: u64) -> Stepped
 }
 
 // ESC C n: a page of n lines.
-pub fn page_lines(p: Printer, n: u8) -> Stepped
-    ensures { λ r. ⌜ Outcome p (ranged (within 1 127 n) (Command.PageLines n) (attempt p (Command.PageLines n) 3) ∷ []) r ⌝ }
+fn page_lines(p: Printer, n: u8) -> Stepped
+    ensures { λ r. ⌜ Outcome p (ranged (within 1 127 n) (Command.Page (Page.Lines n)) (attempt p (Command.Page (Page.Lines n)) 3) ∷ []) r ⌝ }
 {
     let s = p.settings;
     let fits = (1 <= n) & (n <= 127);
@@ -135,14 +162,24 @@ pub fn page_lines(p: Printer, n: u8) -> Stepped
 }
 
 // ESC C 0 n: a page of n inches.
-pub fn page_inches(p: Printer, n: u8) -> Stepped
-    ensures { λ r. ⌜ Outcome p (ranged (within 1 22 n) (Command.PageInches n) (attempt p (Command.PageInches n) 3) ∷ []) r ⌝ }
+fn page_inches(p: Printer, n: u8) -> Stepped
+    ensures { λ r. ⌜ Outcome p (ranged (within 1 22 n) (Command.Page (Page.Inches n)) (attempt p (Command.Page (Page.Inches n)) 3) ∷ []) r ⌝ }
 {
     let fits = (1 <= n) & (n <= 22);
     if fits {
         return page_length(p, 3600 * n as u64);
     }
     writing::passed(p, b'C', 2)
+}
+
+// ESC C.
+pub fn page(p: Printer, g: Page) -> Stepped
+    ensures { λ r. ⌜ Outcome p (ranged (pageRange g) (Command.Page g) (attempt p (Command.Page g) 3) ∷ []) r ⌝ }
+{
+    match g {
+        Page::Lines(n) => page_lines(p, n),
+        Page::Inches(n) => page_inches(p, n),
+    }
 }
 
 // ESC @: power-on, with the settings of the start kept, and a new top.

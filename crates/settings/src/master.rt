@@ -7,7 +7,7 @@ use printer::settings::Width;
 ghost use mathlib.Core.Path.{_≡_};
 ghost use Prim.Native.Nat.{_≤_};
 ghost use Rattle.printer.specs.Tools.{pick, bit};
-ghost use Rattle.printer.specs.Performing.{masterWidth, masterSettings};
+ghost use Rattle.printer.specs.Escapes.{masterWidth, masterSettings};
 
 // Whether the bit of value k is set.
 fn bit(n: u8, k: u8) -> bool

@@ -8,12 +8,11 @@ use writing::Stepped;
 use writing::records::feed_record;
 ghost use mathlib.Core.Path.{_≡_};
 ghost use Prim.Native.Nat.{_*_, _≤_};
-ghost use Rattle.printer.specs.Settings.{lineOf, withPaper, withLine, withSkip};
-ghost use Rattle.printer.specs.Performing.{withPage};
+ghost use Rattle.printer.specs.Settings.{lineOf, withLine, withSkip, withPage};
 ghost use Rattle.settings.specs.Page.{atNewTop, newPage};
 
 pub(crate) fn line(mut s: Settings, n: u32) -> Settings
-    ensures { λ r. ⌜ r ≡ withPaper s (withLine (s .paper) n) ⌝ }
+    ensures { λ r. ⌜ r ≡ withLine s n ⌝ }
 {
     let page = s.paper.page;
     let skip = s.paper.skip;
@@ -27,7 +26,7 @@ pub(crate) fn line(mut s: Settings, n: u32) -> Settings
 }
 
 pub(crate) fn skip(mut s: Settings, n: u32) -> Settings
-    ensures { λ r. ⌜ r ≡ withPaper s (withSkip (s .paper) n) ⌝ }
+    ensures { λ r. ⌜ r ≡ withSkip s n ⌝ }
 {
     let page = s.paper.page;
     let line = s.paper.line;

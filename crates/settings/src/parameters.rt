@@ -1,91 +1,63 @@
-// The escapes with one argument: its range, and the settings that they leave.
+// The escapes with one argument: whether it is taken, and the settings that they leave.
+use crate::arguments::countries;
+use crate::arguments::switched_off;
+use crate::arguments::switched_on;
+use crate::arguments::switches;
 use crate::letters;
 use crate::master;
 use crate::paper;
 use crate::width;
+use printer::commands::Choice;
 use printer::commands::Parameter;
 use printer::settings::Settings;
 ghost use mathlib.Core.Path.{_≡_};
-ghost use mathlib.Core.Bool.{true, false};
-ghost use Rattle.printer.specs.Tools.{pick};
-ghost use Rattle.printer.specs.Performing.{switchedOn, parameterSettings};
-ghost use Rattle.printer.specs.Deciding.{switches, countries, inRange};
+ghost use Rattle.printer.specs.Escapes.{parameterRow, choiceRow, lookSettings};
+ghost use Rattle.printer.specs.declared.commands.Look.{Look};
+ghost use Rattle.settings.specs.Taking.{taken};
 
-// 0, 1, 30h, 31h.
-fn switches(n: u8) -> bool
-    ensures { λ r. ⌜ r ≡ switches n ⌝ }
-{
-    (n <= 1) | ((0x30 <= n) & (n <= 0x31))
+// An escape's row: whether it takes its argument, and the settings that it then leaves.
+pub struct Taking {
+    pub takes: bool,
+    pub settings: Settings,
 }
 
-// Of these, 1 and 31h switch on.
-fn switched_on(n: u8) -> bool
-    ensures { λ r. ⌜ r ≡ switchedOn n ⌝ }
+fn row(takes: bool, settings: Settings) -> Taking
+    ensures { λ r. ⌜ r ≡ taken takes settings ⌝ }
 {
-    (n == 1) | (n == 0x31)
+    Taking { takes, settings }
 }
 
-// 0 and 30h switch off.
-fn switched_off(n: u8) -> bool
-    ensures { λ r. ⌜ r ≡ pick (switchedOn n) false true ⌝ }
-{
-    !switched_on(n)
-}
-
-// 0 to 13, 40h.
-fn countries(n: u8) -> bool
-    ensures { λ r. ⌜ r ≡ countries n ⌝ }
-{
-    (n <= 13) | (n == 0x40)
-}
-
-pub(crate) fn in_range(c: Parameter, n: u8) -> bool
-    ensures { λ r. ⌜ r ≡ inRange c n ⌝ }
-{
-    match c {
-        Parameter::Line180ths => true,
-        Parameter::Line60ths => n <= 85,
-        Parameter::Line360ths => true,
-        Parameter::Skip => (1 <= n) & (n <= 127),
-        Parameter::Spacing => true,
-        Parameter::Proportional => switches(n),
-        Parameter::Script => switches(n),
-        Parameter::Quality => switches(n),
-        Parameter::DoubleWidth => switches(n),
-        Parameter::DoubleHeight => switches(n),
-        Parameter::Underline => switches(n),
-        Parameter::Download => switches(n),
-        Parameter::CodeTable => n <= 1,
-        Parameter::Country => countries(n),
-        Parameter::Outline => n <= 3,
-        Parameter::Font => true,
-        Parameter::Master => true,
-    }
-}
-
-// The settings after each but ESC N, which stores only a skip that it has tested.
-pub(crate) fn parameter_settings(s: Settings, c: Parameter, n: u8) -> Settings
-    ensures { λ r. ⌜ ((c ≡ Parameter.Skip → ⊥) → r ≡ parameterSettings s c n) ⌝ }
+pub(crate) fn parameter(s: Settings, c: Parameter, n: u8) -> Taking
+    ensures { λ r. ⌜ r ≡ taken (parameterRow c .takes n) (parameterRow c .sets s n) ⌝ }
 {
     let on = switched_on(n);
     let off = switched_off(n);
     match c {
-        Parameter::Line180ths => paper::line(s, 20 * n as u32),
-        Parameter::Line60ths => paper::line(s, 60 * n as u32),
-        Parameter::Line360ths => paper::line(s, 10 * n as u32),
-        Parameter::Skip => s,
-        Parameter::Spacing => width::spacing(s, n),
-        Parameter::Proportional => width::proportional(s, on),
-        Parameter::Script => letters::script(s, off, on),
-        Parameter::Quality => letters::draft(s, off),
-        Parameter::DoubleWidth => width::double_width(s, on),
-        Parameter::DoubleHeight => letters::double_height(s, on),
-        Parameter::Underline => letters::underline(s, on),
-        Parameter::Download => letters::download(s, on),
-        Parameter::CodeTable => letters::code_table(s, n),
-        Parameter::Country => letters::country(s, n),
-        Parameter::Outline => letters::outline(s, n),
-        Parameter::Font => letters::font(s, n),
-        Parameter::Master => master::master_settings(s, n),
+        Parameter::Line180ths => row(true, paper::line(s, 20 * n as u32)),
+        Parameter::Line60ths => row(n <= 85, paper::line(s, 60 * n as u32)),
+        Parameter::Line360ths => row(true, paper::line(s, 10 * n as u32)),
+        Parameter::Spacing => row(true, width::spacing(s, n)),
+        Parameter::Proportional => row(switches(n), width::proportional(s, on)),
+        Parameter::Quality => row(switches(n), letters::draft(s, off)),
+        Parameter::DoubleWidth => row(switches(n), width::double_width(s, on)),
+        Parameter::Master => row(true, master::master_settings(s, n)),
+    }
+}
+
+// Those that only show on a letter's record.
+pub(crate) fn choice(s: Settings, c: Choice, n: u8) -> Taking
+    ensures { λ r. ⌜ r ≡ taken (choiceRow c .takes n) (lookSettings s (Look.Choice c n)) ⌝ }
+{
+    let on = switched_on(n);
+    let off = switched_off(n);
+    match c {
+        Choice::Script => row(switches(n), letters::script(s, off, on)),
+        Choice::Underline => row(switches(n), letters::underline(s, on)),
+        Choice::DoubleHeight => row(switches(n), letters::double_height(s, on)),
+        Choice::Outline => row(n <= 3, letters::outline(s, n)),
+        Choice::CodeTable => row(n <= 1, letters::code_table(s, n)),
+        Choice::Font => row(true, letters::font(s, n)),
+        Choice::Country => row(countries(n), letters::country(s, n)),
+        Choice::Download => row(switches(n), letters::download(s, on)),
     }
 }

@@ -6,7 +6,7 @@ ghost use mathlib.Core.Path.{_≡_};
 ghost use Prim.Native.Nat.{_%_};
 ghost use Rattle.printer.specs.Settings.{withWidth, withPitch, withSpacing, withWideOnce, withReduced, withProportional};
 ghost use Rattle.printer.specs.Tools.{holds};
-ghost use Rattle.printer.specs.Performing.{doubled};
+ghost use Rattle.printer.specs.Escapes.{doubled};
 ghost use Rattle.printer.specs.Deciding.{reducedNeeds};
 
 // SI is not allowed at 15 cpi.
@@ -47,7 +47,7 @@ pub(crate) fn spacing(mut s: Settings, n: u8) -> Settings
 }
 
 pub(crate) fn wide_once(mut s: Settings, on: bool) -> Settings
-    ensures { λ r. ⌜ r ≡ withWidth s (withWideOnce (s .width) on) ⌝ }
+    ensures { λ r. ⌜ r ≡ withWideOnce s on ⌝ }
 {
     s.width.wideonce = on;
     s

@@ -1,4 +1,4 @@
 pub mod Writes
 pub mod Runs
 pub mod Placing
-pub mod Parts
+pub mod Taking

@@ -27,9 +27,9 @@ use Rattle.printer.specs.declared.state.Printer.{Printer}
 use Rattle.printer.specs.declared.units.Units.{Units}
 use Rattle.printer.proofs.Choices.{pick-elim, both-left, both-right}
 use Rattle.steps.specs.Output.{Written}
-use Rattle.steps.specs.Parts.{further, afterLetter, isPlaced, lettersFrom, Placed, Roomy}
+use Rattle.steps.specs.Taking.{further, afterLetter, isPlaced, lettersFrom, Placed, RoomForEach}
 use Rattle.steps.proofs.Writes.{none, more, same-length}
-use Rattle.steps.proofs.Runs.{state-cons, records-cons, roomy-cons}
+use Rattle.steps.proofs.Runs.{state-cons, records-cons, room-cons}
 
 -- The rules: a letter that is placed moves the place, and writes its TX alone
 
@@ -58,34 +58,34 @@ module _ (s : Settings) (x : Place) (b room : ℕ) (t : isPlaced s x b room ≡ 
 -- what the rules do with letters, as many as there are records of them
 pub record AreRead (p : Printer) (input : List ℕ) (room : ℕ) (l : List Record) : Type 0 where
   pub within : length l ≤ length input
-  pub roomy : Roomy p (take (length l) input) room
+  pub enough : RoomForEach p (take (length l) input) room
   pub state : stateAfter p (take (length l) input) ≡ moved p (further (p .settings) (p .place) (length l))
   pub records : recordsOver p (take (length l) input) ≡ l
 
 none-read : (p : Printer) (input : List ℕ) (room : ℕ) → AreRead p input room []
-unfolding Roomy stateAfter recordsOver
-none-read p input room = record { within = omega arith; roomy = tt; state = rw (zero-mul, add-zero); records = refl }
+unfolding RoomForEach stateAfter recordsOver
+none-read p input room = record { within = omega arith; enough = tt; state = rw (zero-mul, add-zero); records = refl }
 
 module _ (p : Printer) (b room : ℕ) (e : p .waiting ≡ Waiting.Nothing) (t : isPlaced (p .settings) (p .place) b room ≡ true) where
   letter-state : stepOf p b ≡ moved p (afterLetter (p .settings) (p .place))
   unfolding stepOf stepEvents frame letterEvents performAll
   letter-state = rw (e, is-letter (p .settings) (p .place) b room t, fits (p .settings) (p .place) b room t)
 
-  letter-records : stepRecords p b ≡ letterRecord (p .settings) (p .place) b ∷ []
+  letter-records : stepRecords p b ≡ letterRecord (p .settings) (p .place) b (advance (p .settings .width)) ∷ []
   unfolding stepRecords stepEvents frame letterEvents recordsAll
   letter-records = rw (e, is-letter (p .settings) (p .place) b room t, fits (p .settings) (p .place) b room t)
 
   letter-read : {l : List ℕ} {k : List Record}
       → AreRead (moved p (afterLetter (p .settings) (p .place))) l (room - recordSize) k
-      → AreRead p (b ∷ l) room (letterRecord (p .settings) (p .place) b ∷ k)
+      → AreRead p (b ∷ l) room (letterRecord (p .settings) (p .place) b (advance (p .settings .width)) ∷ k)
   letter-read {l} {k} v =
       let bs : List ℕ = take (length k) l in
       let w = advance (p .settings .width) in
       let n : acrossOf (p .place) + w + length k * w ≡ acrossOf (p .place) + suc (length k) * w = omega (arith, suc-mul (length k) w) in
       record {
         within = omega (arith, v .within);
-        roomy = roomy-cons p b bs room (has-room (p .settings) (p .place) b room t)
-            (rw (letter-state, letter-records) (v .roomy));
+        enough = room-cons p b bs room (has-room (p .settings) (p .place) b room t)
+            (rw (letter-state, letter-records) (v .enough));
         state = rw (state-cons p b bs, letter-state) (v .state ∙ rw n);
         records = rw (records-cons p b bs, letter-state, letter-records, v .records);
       }
@@ -174,7 +174,7 @@ module _
         room-enough = has-room s Here Byte (length out - written) (tested h)
 
         -- a letter more
-        pub goes-on : {r : Record} {end : ℕ} {out′ : List ℕ} → r ≡ letterRecord s Here Byte → Written out written (r ∷ []) end out′
+        pub goes-on : {r : Record} {end : ℕ} {out′ : List ℕ} → r ≡ letterRecord s Here Byte (advance (s .width)) → Written out written (r ∷ []) end out′
             → Placing s x input out₀ out′ (across + by .0) (n + 1) end
         unfolding lettersFrom
         goes-on {r} k v =

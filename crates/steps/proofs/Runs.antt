@@ -15,7 +15,7 @@ use Rattle.printer.specs.declared.answers.Answer.{Answer}
 use Rattle.printer.specs.declared.records.Record.{Record}
 use Rattle.printer.specs.declared.state.Printer.{Printer}
 use Rattle.printer.proofs.Few.{two-records}
-use Rattle.steps.specs.Parts.{Roomy}
+use Rattle.steps.specs.Taking.{RoomForEach}
 
 -- so many bytes read, with their records, before a run
 abbrev pub after : ℕ → List Record → Run → Run
@@ -42,16 +42,16 @@ module _ (p : Printer) (b : ℕ) (l : List ℕ) where
   unfolding recordsOver
   records-cons = refl
 
-  pub roomy-cons : (room : ℕ) → roomForByte ≤ room → Roomy (stepOf p b) l (room - recordSize * length (stepRecords p b))
-      → Roomy p (b ∷ l) room
-  unfolding Roomy
-  roomy-cons room h k = (h, k)
+  pub room-cons : (room : ℕ) → roomForByte ≤ room → RoomForEach (stepOf p b) l (room - recordSize * length (stepRecords p b))
+      → RoomForEach p (b ∷ l) room
+  unfolding RoomForEach
+  room-cons room h k = (h, k)
 
-pub part-fits : (p : Printer) (l : List ℕ) (room : ℕ) → Roomy p l room → recordSize * length (recordsOver p l) ≤ room
-unfolding Roomy recordsOver
-part-fits p [] room h = omega arith
-part-fits p (b ∷ l) room h =
-    omega (arith, h .0, two-records p b, part-fits (stepOf p b) l _ (h .1), length-append (stepRecords p b) (recordsOver (stepOf p b) l))
+pub taken-fits : (p : Printer) (l : List ℕ) (room : ℕ) → RoomForEach p l room → recordSize * length (recordsOver p l) ≤ room
+unfolding RoomForEach recordsOver
+taken-fits p [] room h = omega arith
+taken-fits p (b ∷ l) room h =
+    omega (arith, h .0, two-records p b, taken-fits (stepOf p b) l _ (h .1), length-append (stepRecords p b) (recordsOver (stepOf p b) l))
 
 -- a part's bytes, before the rest of a run
 abbrev Parted : Printer → (l rest : List ℕ) → (allowance room : ℕ) → Type 0
@@ -75,9 +75,9 @@ byte-part p b l rest allowance room h k e =
     reads p b (l ++ rest) allowance room (λ z. omega arith)
     ∙ rw (le-ltb room roomForByte k, e) (rw (state-cons p b l, records-cons p b l, a, m, append-assoc, suc-add))
 
-pub run-part : (p : Printer) (l rest : List ℕ) (allowance room : ℕ) → length l ≤ allowance → Roomy p l room
+pub run-taken : (p : Printer) (l rest : List ℕ) (allowance room : ℕ) → length l ≤ allowance → RoomForEach p l room
     → Parted p l rest allowance room
-unfolding Roomy
-run-part p [] rest allowance room h k = no-part p rest allowance room
-run-part p (b ∷ l) rest allowance room h k =
-    byte-part p b l rest allowance room h (k .0) (run-part (stepOf p b) l rest (allowance - 1) _ (omega arith) (k .1))
+unfolding RoomForEach
+run-taken p [] rest allowance room h k = no-part p rest allowance room
+run-taken p (b ∷ l) rest allowance room h k =
+    byte-part p b l rest allowance room h (k .0) (run-taken (stepOf p b) l rest (allowance - 1) _ (omega arith) (k .1))

@@ -1,6 +1,7 @@
 // Letters that follow each other on a line.
 use crate::ROOM;
 use crate::write_record;
+use measures::widths;
 use printer::settings::Settings;
 use printer::state::Place;
 use printer::units::Units;
@@ -12,7 +13,7 @@ ghost use lib.ListN.{length};
 ghost use Rattle.printer.specs.Tools.{both};
 ghost use Rattle.printer.specs.Framing.{isLetter};
 ghost use Rattle.printer.specs.Records.{roomForByte};
-ghost use Rattle.steps.specs.Parts.{lettersFrom, Placed};
+ghost use Rattle.steps.specs.Taking.{lettersFrom, Placed};
 
 // How many letters were placed, the bytes of their records, and the place after them.
 pub struct Letters {
@@ -37,7 +38,7 @@ pub fn place_letters(s: Settings, x: Place, input: &[u8], out: &mut [u8]) -> Let
     let right = s.margins.right.0;
     let width = s.width;
     let down = x.down;
-    let advance = width.advance().0;
+    let advance = widths::advance(width).0;
     let mut across = x.across.0;
     let mut n: usize = 0;
     let mut written: usize = 0;

@@ -1,5 +1,6 @@
-// Reading a part of the input: letters that follow each other on a line, or one byte of any kind.
+// A turn of a reading call: it takes letters that follow each other on a line, or one byte of any kind.
 use letters::place_letters;
+use measures::encoding::encoded;
 use printer::commands::Waiting;
 use printer::records::Record;
 use printer::state::Printer;
@@ -10,11 +11,11 @@ ghost use mathlib.Core.Path.{_≡_};
 ghost use mathlib.Core.List.{[], _∷_};
 ghost use Prim.Native.Nat.{_+_, _<_, _≤_};
 ghost use lib.ListN.{length};
-ghost use Rattle.printer.specs.Bounds.{Accepted};
+ghost use Rattle.printer.specs.Accepted.{Accepted};
 ghost use Rattle.printer.specs.Records.{recordSize, roomForByte};
 ghost use Rattle.writing.specs.Outcome.{recordsIn};
 ghost use Rattle.steps.specs.Output.{Written};
-ghost use Rattle.steps.specs.Parts.{PartPromise};
+ghost use Rattle.steps.specs.Taking.{TakenPromise};
 
 mod letters;
 mod step;
@@ -22,8 +23,8 @@ mod step;
 // The room that a byte's records may take: it writes at most two.
 pub const ROOM: usize = 2 * Record::SIZE;
 
-// What reading a part leaves: the state, and how many bytes were read and written.
-pub struct Part {
+// What a turn has taken of the input: the state after it, and how many bytes were read and written.
+pub struct Taken {
     pub printer: Printer,
     pub read: usize,
     pub written: usize,
@@ -35,7 +36,7 @@ fn write_record(out: &mut [u8], at: usize, r: Record) -> usize
     ensures { λ n. ⌜ Written (now (out .entry)) at (r ∷ []) n (now (out .exit)) ⌝ }
 {
     let end = at + Record::SIZE;
-    let encoded = r.encoded();
+    let encoded = encoded(r);
     bytes::copy(&encoded, &mut out[at..end]);
     end
 }
@@ -56,10 +57,10 @@ fn write_output(out: &mut [u8], at: usize, output: Output) -> usize
 }
 
 // No byte read.
-fn nothing(p: Printer) -> Part
+fn nothing(p: Printer) -> Taken
     ensures { λ r. ⌜ r ≡ record { printer = p; read = 0; written = 0 } ⌝ }
 {
-    Part {
+    Taken {
         printer: p,
         read: 0,
         written: 0,
@@ -67,8 +68,8 @@ fn nothing(p: Printer) -> Part
 }
 
 // Reads the letters that are placed from here: none while something is waited for.
-fn read_letters(p: Printer, input: &[u8], out: &mut [u8]) -> Part
-    ensures { λ r. ⌜ PartPromise p (now (input .entry)) (now (out .entry)) r (now (out .exit)) ⌝ }
+fn read_letters(p: Printer, input: &[u8], out: &mut [u8]) -> Taken
+    ensures { λ r. ⌜ TakenPromise p (now (input .entry)) (now (out .entry)) r (now (out .exit)) ⌝ }
 {
     let waiting = p.waiting;
     let Waiting::Nothing = waiting else {
@@ -78,16 +79,16 @@ fn read_letters(p: Printer, input: &[u8], out: &mut [u8]) -> Part
     let place = p.place;
     let letters = place_letters(settings, place, input, out);
     let next = letters.place;
-    Part {
+    Taken {
         printer: with_place(p, next),
         read: letters.count,
         written: letters.written,
     }
 }
 
-// Reads one byte of any kind: none without input, or with under 28 bytes of output.
-fn read_byte(p: Printer, input: &[u8], out: &mut [u8]) -> Part
-    ensures { λ r. ⌜ (Accepted p → PartPromise p (now (input .entry)) (now (out .entry)) r (now (out .exit))) ⌝ }
+// Reads one byte of any kind: none without input, or without room for a byte's records.
+fn read_byte(p: Printer, input: &[u8], out: &mut [u8]) -> Taken
+    ensures { λ r. ⌜ (Accepted p → TakenPromise p (now (input .entry)) (now (out .entry)) r (now (out .exit))) ⌝ }
     ensures { λ r. ⌜ (0 < length (now (input .entry)) → roomForByte ≤ length (now (out .entry)) → 0 < r .read) ⌝ }
 {
     if input.len() == 0 {
@@ -100,7 +101,7 @@ fn read_byte(p: Printer, input: &[u8], out: &mut [u8]) -> Part
     let printer = s.printer;
     let output = s.output;
     let written = write_output(out, 0, output);
-    Part {
+    Taken {
         printer,
         read: 1,
         written,
@@ -108,8 +109,8 @@ fn read_byte(p: Printer, input: &[u8], out: &mut [u8]) -> Part
 }
 
 // Reads the letters that are placed from here, or else one byte.
-pub fn read_part(p: Printer, input: &[u8], out: &mut [u8]) -> Part
-    ensures { λ r. ⌜ (Accepted p → PartPromise p (now (input .entry)) (now (out .entry)) r (now (out .exit))) ⌝ }
+pub fn turn(p: Printer, input: &[u8], out: &mut [u8]) -> Taken
+    ensures { λ r. ⌜ (Accepted p → TakenPromise p (now (input .entry)) (now (out .entry)) r (now (out .exit))) ⌝ }
     ensures { λ r. ⌜ (0 < length (now (input .entry)) → roomForByte ≤ length (now (out .entry)) → 0 < r .read) ⌝ }
 {
     let letters = read_letters(p, input, &mut *out);

@@ -4,7 +4,7 @@ use printer::commands::Waiting;
 use printer::state::Printer;
 use writing::Stepped;
 ghost use mathlib.Core.Path.{_≡_};
-ghost use Rattle.printer.specs.Bounds.{Accepted};
+ghost use Rattle.printer.specs.Accepted.{Accepted};
 ghost use Rattle.printer.specs.Steps.{waitFor, stepOf, stepRecords};
 ghost use Rattle.writing.specs.Outcome.{recordsIn};
 

@@ -4,10 +4,9 @@
 // input. It is read by one call, and again by a call for each byte.
 use libc::STDIN_FILENO;
 use libc::STDOUT_FILENO;
-use lines::hex;
-use lines::hex_lines;
 use printer::answers::Answer;
 use printer::records::Record;
+use printer::settings::StartSettings;
 use printer::state::Printer;
 ghost use Prim.Native.Nat.{_≤_};
 ghost use lib.ListN.{length};
@@ -85,13 +84,17 @@ fn show(printer: Printer, input: &[u8]) {
     if !cut_agrees(printer, input, &records[0..written]) {
         say(b"cut differs\n");
     }
-    let size = hex_lines(&records[0..written], &mut text);
+    let size = hex::lines(&records[0..written], &mut text);
     say(&text[0..size]);
     say(b"\n");
 }
 
 fn run(dots: u32, autofeed: bool, input: &[u8]) {
-    let started = reader::start(dots, autofeed);
+    let settings = StartSettings {
+        resolution: dots,
+        autofeed,
+    };
+    let started = reader::start(settings);
     let answer = started.answer;
     let printer = started.printer;
     match answer {

@@ -4,7 +4,7 @@ use mathlib.Core.Path.{_≡_, refl, sym, ap, _∙_}
 use mathlib.Core.Bool.{Bool, true, false}
 use mathlib.Core.List.{List, [], _∷_, _++_, append-nil}
 use Rattle.printer.specs.Tools.{holds}
-use Rattle.printer.specs.Codes.{codeOf}
+use Rattle.printer.specs.Codes.{shows}
 use Rattle.printer.specs.Records.{passedRecord}
 use Rattle.printer.specs.Performing.{Event, done, passed, perform, performAll, recordsOf, recordsAll}
 use Rattle.printer.specs.Deciding.{needsAt, attempt, ranged}
@@ -13,19 +13,6 @@ use Rattle.printer.specs.declared.state.Printer.{Printer}
 use Rattle.writing.specs.Outcome.{recordsIn, stepped, Outcome}
 use Rattle.writing.specs.declared.Output.{Output}
 use Rattle.writing.specs.declared.Stepped.{Stepped}
-
--- an event before others
-pub before : (p : Printer) (e : Event) (l : List Event) (a b r : Stepped)
-    → a .printer ≡ perform p e → recordsIn (a .output) ≡ recordsOf p e
-    → Outcome (a .printer) l b
-    → r .printer ≡ b .printer → recordsIn (r .output) ≡ recordsIn (a .output) ++ recordsIn (b .output)
-    → Outcome p (e ∷ l) r
-unfolding performAll recordsAll
-before p e l a b r h k o i j =
-    record {
-      printer = i ∙ o .printer ∙ rw h;
-      records = j ∙ rw (k, o .records, h);
-    }
 
 -- one event, by the state and the records
 pub one : (p : Printer) (e : Event) {r : Stepped}
@@ -46,8 +33,8 @@ silently p e l h o = record { printer = o .printer; records = rw h (o .records) 
 
 -- A command passed over
 module _ (p : Printer) (c : Command) (reason : ℕ) {r : Stepped} where
-  pub passed-over : r ≡ stepped p (Output.One (passedRecord (codeOf c) reason)) → Outcome p (passed c reason ∷ []) r
-  passed-over h = whole p (passed c reason) (Output.One (passedRecord (codeOf c) reason)) h refl
+  pub passed-over : r ≡ stepped p (Output.One (passedRecord (shows c) reason)) → Outcome p (passed c reason ∷ []) r
+  passed-over h = whole p (passed c reason) (Output.One (passedRecord (shows c) reason)) h refl
 
   -- a command is done if it has what it needs
   pub attempt-done : holds (needsAt p c 0) ≡ true → Outcome p (done c 0 ∷ []) r → Outcome p (attempt p c reason ∷ []) r
@@ -55,7 +42,7 @@ module _ (p : Printer) (c : Command) (reason : ℕ) {r : Stepped} where
   attempt-done t o = rw t o
 
   -- and else passed over
-  pub attempt-passed : holds (needsAt p c 0) ≡ false → r ≡ stepped p (Output.One (passedRecord (codeOf c) reason))
+  pub attempt-passed : holds (needsAt p c 0) ≡ false → r ≡ stepped p (Output.One (passedRecord (shows c) reason))
       → Outcome p (attempt p c reason ∷ []) r
   unfolding attempt
   attempt-passed t h = rw t (passed-over h)
@@ -66,7 +53,7 @@ module _ (p : Printer) (fits : Bool) (c : Command) (e : Event) {r : Stepped} whe
   unfolding ranged
   in-range t o = rw t o
 
-  pub out-of-range : fits ≡ false → r ≡ stepped p (Output.One (passedRecord (codeOf c) 2))
+  pub out-of-range : fits ≡ false → r ≡ stepped p (Output.One (passedRecord (shows c) 2))
       → Outcome p (ranged fits c e ∷ []) r
   unfolding ranged
   out-of-range t h = rw t (passed-over p c 2 h)

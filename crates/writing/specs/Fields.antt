@@ -1,29 +1,11 @@
--- Parts of records that the code makes apart: the style bits by groups of settings, and the fields that LN, CL and NO share.
+-- The style bits by groups of settings.
 use Prim.Native.Nat.{ℕ, _+_, _*_, _%_}
 use Rattle.printer.specs.Tools.{pick}
-use Rattle.printer.specs.Units.{units}
 use Rattle.printer.specs.Widths.{doubleWidth}
-use Rattle.printer.specs.declared.records.Mark.{Mark}
-use Rattle.printer.specs.declared.records.Record.{Record}
 use Rattle.printer.specs.declared.settings.Emphasis.{Emphasis}
 use Rattle.printer.specs.declared.settings.Face.{Face}
 use Rattle.printer.specs.declared.settings.Script.{Script}
 use Rattle.printer.specs.declared.settings.Width.{Width}
-use Rattle.printer.specs.declared.units.Dots.{Dots}
-
--- no place across, font, country or advance
-abbrev pub plainRecord : Mark → Dots → (byte style : ℕ) → Record
-plainRecord mark row byte style =
-    record {
-      mark = mark;
-      column = record { 0 = 0 };
-      row = row;
-      byte = byte;
-      font = 0;
-      style = style;
-      country = 0;
-      advance = units 0;
-    }
 
 abbrev pub emphasisStyle : Emphasis → ℕ
 emphasisStyle e =

@@ -1,4 +1,6 @@
 // The records of document 01, from the settings and the place.
+use measures::rounding;
+use measures::widths;
 use printer::commands::Density;
 use printer::records::Mark;
 use printer::records::Record;
@@ -14,9 +16,9 @@ ghost use mathlib.Core.Path.{_≡_};
 ghost use Prim.Native.Nat.{_+_, _*_, _%_, _≤_};
 ghost use Rattle.printer.specs.Tools.{pick};
 ghost use Rattle.printer.specs.Units.{units};
-ghost use Rattle.printer.specs.Widths.{imageStep};
-ghost use Rattle.printer.specs.Records.{styleOf, letterRecord, imageRecord, feedRecord, clearRecord, passedRecord};
-ghost use Rattle.writing.specs.Fields.{plainRecord, emphasisStyle, scriptStyle, widthStyle, faceStyle};
+ghost use Rattle.printer.specs.Widths.{advance, imageStep};
+ghost use Rattle.printer.specs.Records.{styleOf, letterRecord, imageRecord, plainRecord, feedRecord, clearRecord, passedRecord};
+ghost use Rattle.writing.specs.Fields.{emphasisStyle, scriptStyle, widthStyle, faceStyle};
 
 // A style bit, if it is on.
 fn flag(on: bool, value: u16) -> u16
@@ -40,7 +42,7 @@ fn script_style(t: Script) -> u16
 fn width_style(w: Width) -> u16
     ensures { λ r. ⌜ (r ≡ widthStyle w) × (r ≤ 0xC40) ⌝ }
 {
-    flag(w.double_width(), 0x40) + flag(w.proportional, 0x400) + flag(w.reduced, 0x800)
+    flag(widths::double_width(w), 0x40) + flag(w.proportional, 0x400) + flag(w.reduced, 0x800)
 }
 
 fn face_style(f: Face) -> u16
@@ -75,7 +77,7 @@ pub fn image_step(d: Density) -> Units
 
 // TX: a letter at a place.
 pub fn letter_record(s: Settings, x: Place, b: u8) -> Record
-    ensures { λ r. ⌜ r ≡ letterRecord s x b ⌝ }
+    ensures { λ r. ⌜ r ≡ letterRecord s x b (advance (s .width)) ⌝ }
 {
     let setup = s.setup;
     let resolution = setup.resolution;
@@ -84,13 +86,13 @@ pub fn letter_record(s: Settings, x: Place, b: u8) -> Record
     let width = s.width;
     Record {
         mark: Mark::Tx,
-        column: resolution.column(across),
-        row: resolution.row(down),
+        column: rounding::column(resolution, across),
+        row: rounding::row(resolution, down),
         byte: b,
         font: s.face.font,
         style: style_of(s),
         country: s.face.country,
-        advance: width.advance(),
+        advance: widths::advance(width),
     }
 }
 
@@ -104,8 +106,8 @@ pub fn image_record(s: Settings, x: Place, b: u8, d: Density) -> Record
     let down = x.down;
     Record {
         mark: Mark::Im,
-        column: resolution.column(across),
-        row: resolution.row(down),
+        column: rounding::column(resolution, across),
+        row: rounding::row(resolution, down),
         byte: b,
         font: 0,
         style: 0,
@@ -136,7 +138,7 @@ pub fn feed_record(s: Settings, down: Units, pages: u8) -> Record
 {
     let setup = s.setup;
     let resolution = setup.resolution;
-    plain_record(Mark::Ln, resolution.row(down), pages, 0)
+    plain_record(Mark::Ln, rounding::row(resolution, down), pages, 0)
 }
 
 // CL.

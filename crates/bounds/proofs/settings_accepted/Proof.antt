@@ -2,6 +2,7 @@
 use mathlib.Core.Bool.{and-assoc}
 use borrow.Author.Needs.{needs}
 use native.Mathlib.Omega.{arith}
+use Rattle.printer.specs.Units.{shortestPage}
 use Rattle.printer.proofs.CodeLaws.{both-true}
 use Rattle.bounds.proofs.StopLaws.{passing, enough}
 use Rattle.bounds.proofs.settings_accepted.Statement.{statement}
@@ -13,7 +14,7 @@ returns c =
     let q = b .before .args .s .paper in
     simp (
       b .edge .ensures,
-      enough 3600 (q .skip .0) (q .page .0) (omega arith),
+      enough shortestPage (q .skip .0) (q .page .0) (omega arith),
       c .before .country-named .ensures,
       and-assoc,
       passing,

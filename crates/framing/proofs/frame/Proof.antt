@@ -10,33 +10,18 @@ second c = rw (c .before .before .enum-told2 .given .1, ← c .before .second-of
 
 argument : tie.Need-returns-3
 unfolding frame
-argument c = rw (c .before .before .waiting .given .1, c .one-command .ensures)
+argument c = rw (c .before .before .waiting .given .1) (c .argument-frame .ensures)
 
-inches : tie.Need-returns-5
+list : tie.Need-returns-4
 unfolding frame
-inches c = rw (c .enum-told4 .given .1)
-
-first : tie.Need-returns-6
-unfolding frame
-first c = rw (c .before .waiting2 .given .1)
-
-list : tie.Need-returns-8
-unfolding frame
-list c = rw (c .before .before .waiting4 .given .1) (c .list-frame .ensures)
+list c = rw (c .before .before .waiting2 .given .1) (c .list-frame .ensures)
 
 pub frame-spec : {M : Type 1} → statement M
 frame-spec =
     tie.close
     (tie.spec (λ c. search needs) (λ c κs. search needs) (λ c. search needs) (λ c κs. search needs)
     (λ c κs. search needs) (λ c. search needs) (λ c κs. search needs) (λ c. search needs) (λ c κs. search needs)
-    (λ c. search needs) (λ c. search needs) (λ c. search needs) (λ c κs. search needs) (λ c. search needs)
-    (λ c κs. search needs) (λ c. search needs) (λ c κs. search needs)
+    (λ c. search needs) (λ c κs. search needs)
     (λ c. rw (c .before .enum-told .given .1) (c .begin-frame .ensures))
-    second
-    argument
-    (λ c. rw (c .before .enum-told3 .given .1) (c .page-frame .ensures _))
-    inches
-    first
-    (λ c. rw (c .before .before .waiting3 .given .1) (c .two-frame .ensures _))
-    list
-    (λ c. rw (c .before .before .waiting5 .given .1) (c .image-frame .ensures _)))
+    second argument list
+    (λ c. rw (c .before .before .waiting3 .given .1) (c .image-frame .ensures _)))

@@ -8,6 +8,6 @@ second-frame-spec =
     tie.close
     (tie.spec (λ c. search needs) (λ c. search needs) (λ c. search needs) (λ c. search needs) (λ c. search needs)
     (λ c. search needs) (λ c. search needs)
-    (λ c. rw (c .enum-told .given .1)) (λ c. rw (c .before .s .given .1)) (λ c. rw (c .before .s2 .given .1))
-    (λ c. rw (c .enum-told2 .given .1)) (λ c. rw (c .before .s3 .given .1)) (λ c. rw (c .before .s4 .given .1))
-    (λ c. rw (c .enum-told3 .given .1)))
+    (λ c. rw (c .before .s .given .1)) (λ c. rw (c .enum-told .given .1)) (λ c. rw (c .before .s2 .given .1))
+    (λ c. rw (c .before .s3 .given .1)) (λ c. rw (c .before .s4 .given .1)) (λ c. rw (c .before .s5 .given .1))
+    (λ c. rw (c .enum-told2 .given .1)))

@@ -1,12 +1,10 @@
 -- The second of two arguments: the command, and what it waits for.
 use borrow.Author.Needs.{needs}
-use Rattle.printer.specs.Framing.{frame}
 use Rattle.framing.proofs.two_frame.Statement.{statement}
 use Rattle.framing.proofs.two_frame.Tie as tie
 
 returns : tie.Need-returns
-unfolding frame
-returns c upper = rw (c .after-two .ensures, c .before .two-command .ensures)
+returns c = rw (c .after-two .ensures, c .before .two-command .ensures)
 
 pub two-frame-spec : {M : Type 1} → statement M
 two-frame-spec =

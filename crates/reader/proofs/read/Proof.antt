@@ -4,6 +4,7 @@ use borrow.Author.Needs.{needs}
 use Rattle.printer.specs.Calls.{callOf}
 use Rattle.printer.specs.Records.{encodedAll}
 use Rattle.printer.proofs.Accepting.{accepted-fact}
+use Rattle.printer.proofs.Answering.{read-promise}
 use Rattle.reader.proofs.read.Statement.{statement}
 use Rattle.reader.proofs.read.Tie as tie
 
@@ -14,7 +15,7 @@ returns-2 : tie.Need-returns-2
 unfolding callOf encodedAll
 returns-2 c =
     let e = sym (c .before .before .accepts .ensures) ∙ c .before .if1 .left in
-    record { gives = rw (c .reading .ensures, e); output = rw e }
+    read-promise _ _ _ _ _ _ (rw (c .reading .ensures, e)) (rw e)
 
 pub read-spec : {M : Type 1} → statement M
 read-spec =

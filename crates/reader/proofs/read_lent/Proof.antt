@@ -44,7 +44,7 @@ use denote.Triple.Spec.{Meets, tripleOf}
 use denote.Triple.Table.{entered, cited}
 use denote.Triple.Walked.{says, Stays, stay-ref, stay-dropped, gave-slice, walkOf, AllGo, goes-ref, goes-dropped, goes-gave-slice, Walks, ends-at, walked, walk-meets}
 use denote.Exit.{yes}
-use Rattle.printer.specs.Calls.{ReadPromise}
+use Rattle.printer.specs.Promises.{ReadPromise}
 use Rattle.printer.specs.declared.answers.Reading.{Reading}
 use Rattle.printer.specs.declared.answers.Report.{Report}
 use Rattle.printer.specs.declared.state.Printer.{Printer}

@@ -46,12 +46,12 @@ add-stop c =
     let g = b .loop .inv in
     omega (arith, c .least .ensures, g .within)
 
-part-end : tie.Need-part-read-part-end Inv-loop μ-loop
+part-end : tie.Need-part-turn-end Inv-loop μ-loop
 part-end c =
     let g = c .before .before .before .before .loop .inv in
     omega (arith, c .least .ensures, g .within)
 
-part-start-2 : tie.Need-part-read-part-start-2 Inv-loop μ-loop
+part-start-2 : tie.Need-part-turn-start-2 Inv-loop μ-loop
 part-start-2 c =
     let g = c .before .before .before .before .before .loop .inv in
     omega (arith, g .fits, long g)
@@ -62,7 +62,7 @@ add-at c =
     let l = d .before .before .before in
     let b = l .before .before .before .before in
     let g = b .loop .inv in
-    let h = within-input g (l .least .ensures) (d .read-part .ensures .0 (g .ours .accepted)) in
+    let h = within-input g (l .least .ensures) (d .turn .ensures .0 (g .ours .accepted)) in
     let f = b .before .before .before .good .1 .0 in
     omega (arith, h, f)
 
@@ -71,7 +71,7 @@ sub-left c =
     let d = c .before .before .before .before .before in
     let l = d .before .before .before in
     let g = l .before .before .before .before .loop .inv in
-    within-allowance g (l .least .ensures) (d .read-part .ensures .0 (g .ours .accepted))
+    within-allowance g (l .least .ensures) (d .turn .ensures .0 (g .ours .accepted))
 
 add-written : tie.Need-add-written Inv-loop μ-loop
 add-written c =
@@ -79,7 +79,7 @@ add-written c =
     let l = d .before .before .before in
     let b = l .before .before .before .before in
     let g = b .loop .inv in
-    let h = within-output g (l .least .ensures) (d .read-part .ensures .0 (g .ours .accepted)) in
+    let h = within-output g (l .least .ensures) (d .turn .ensures .0 (g .ours .accepted)) in
     let f = b .before .before .before .good .1 .1 .1 .0 in
     omega (arith, h, f)
 
@@ -89,8 +89,8 @@ loop-less c =
     let l = d .before .before .before in
     let b = l .before .before .before in
     let g = b .before .loop .inv in
-    turn-less g (l .least .ensures) (d .read-part .ensures .0 (g .ours .accepted)) (b .if1 .left) (l .before .before .if2 .left)
-    (l .before .if3 .left) (d .read-part .ensures .1)
+    turn-less g (l .least .ensures) (d .turn .ensures .0 (g .ours .accepted)) (b .if1 .left) (l .before .before .if2 .left)
+    (l .before .if3 .left) (d .turn .ensures .1)
 
 loop-again : tie.Need-loop-again Inv-loop μ-loop
 loop-again c =
@@ -98,7 +98,7 @@ loop-again c =
     let l = d .before .before .before in
     let b = l .before .before .before .before in
     let g = b .loop .inv in
-    goes-on g (l .least .ensures) (d .read-part .ensures .0 (g .ours .accepted))
+    goes-on g (l .least .ensures) (d .turn .ensures .0 (g .ours .accepted))
     (known-bytes (now (b .before .before .before .args .input)) (λ i. omega (arith, b .before .before .shared-slice-known .given i)))
 
 pub run-spec : {M : Type 1} → statement M

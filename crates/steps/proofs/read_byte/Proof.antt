@@ -1,7 +1,7 @@
 -- One byte, if there is one and room for its records.
 use native.Mathlib.Omega.{arith}
 use borrow.Author.Needs.{needs}
-use Rattle.steps.proofs.Parts.{nothing-read, one-read}
+use Rattle.steps.proofs.Taking.{nothing-read, one-read}
 use Rattle.steps.proofs.read_byte.Statement.{statement}
 use Rattle.steps.proofs.read_byte.Tie as tie
 

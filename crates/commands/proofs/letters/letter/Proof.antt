@@ -9,13 +9,13 @@ use Rattle.commands.proofs.letters.letter.Tie as tie
 returns : tie.Need-returns
 returns c =
     let b = c .before .before .before in
-    rw (letter-stays _ _ (rw (b .before .advance-units .ensures) at (sym (b .stays .ensures) ∙ c .before .before .if1 .taken)))
+    rw (letter-stays _ _ (rw (b .before .advance .ensures) at (sym (b .stays .ensures) ∙ c .before .before .if1 .taken)))
     (writes-one (c .before .letter-here .result) (c .as-step .ensures) (c .before .letter-here .ensures))
 
 returns-2 : tie.Need-returns-2
 returns-2 c =
     let b = c .before .before in
-    rw (letter-wraps _ _ (rw (b .before .advance-units .ensures) at (sym (b .stays .ensures) ∙ c .before .if1 .left)))
+    rw (letter-wraps _ _ (rw (b .before .advance .ensures) at (sym (b .stays .ensures) ∙ c .before .if1 .left)))
     (c .letter-on-next-line .ensures)
 
 pub letter-spec : {M : Type 1} → statement M

@@ -7,7 +7,7 @@ use Rattle.printer.proofs.CodeLaws.{product}
 use Rattle.commands.proofs.moves.relative_to.Statement.{statement}
 use Rattle.commands.proofs.moves.relative_to.Tie as tie
 
-mul-rightward : tie.Need-mul-rightward
+mul-rightward : tie.Need-mul-t8
 mul-rightward c =
     let a = c .before .before .before .args in
     record { fits = omega (arith, product (a .n) (a .step) 65535 30 (omega arith) (omega arith)) }
@@ -15,7 +15,7 @@ mul-rightward c =
 returns : tie.Need-returns
 returns c = rw (lt-ltb _ _ (c .before .if1 .taken)) (c .rightward .ensures)
 
-mul-leftward : tie.Need-mul-leftward
+mul-leftward : tie.Need-mul-t11
 mul-leftward c =
     let a = c .before .before .before .args in
     record { fits = omega (arith, product (0x10000 - a .n) (a .step) 65536 30 (omega arith) (omega arith)) }

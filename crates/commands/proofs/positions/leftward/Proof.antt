@@ -7,7 +7,7 @@ use Rattle.commands.proofs.positions.leftward.Tie as tie
 
 returns : tie.Need-returns
 unfolding reach
-returns c = rw (le-leb _ _ (c .before .if1 .taken))
+returns c = rw (le-leb _ _ (c .before .before .if1 .taken))
 
 returns-2 : tie.Need-returns-2
 unfolding reach
@@ -16,4 +16,5 @@ returns-2 c = rw (lt-leb _ _ (c .if1 .left))
 pub leftward-spec : {M : Type 1} → statement M
 leftward-spec =
     tie.close
-    (tie.spec (λ c. search needs) (λ c. search needs) (λ c. search needs) (λ c. search needs) returns returns-2)
+    (tie.spec (λ c. search needs) (λ c. search needs) (λ c. search needs) (λ c. search needs) (λ c. search needs)
+    returns returns-2)

@@ -16,4 +16,5 @@ returns-2 c = rw (lt-leb _ _ (c .if1 .left))
 pub rightward-spec : {M : Type 1} → statement M
 rightward-spec =
     tie.close
-    (tie.spec (λ c. search needs) (λ c. search needs) (λ c. search needs) (λ c. search needs) returns returns-2)
+    (tie.spec (λ c. search needs) (λ c. search needs) (λ c. search needs) (λ c. search needs) (λ c. search needs)
+    returns returns-2)

@@ -9,15 +9,15 @@ use Rattle.commands.proofs.tabs.next_line.Statement.{statement}
 use Rattle.commands.proofs.tabs.next_line.Tie as tie
 
 abbrev Inv-loop : tie.InvT-loop
-Inv-loop down stops count limit i₀ i = Left (ltb down) stops count limit i
+Inv-loop down stops count end i₀ i = Left (λ n. n) (ltb down) stops count end i
 
 abbrev μ-loop : tie.MeasureT-loop
-μ-loop down stops count limit i₀ i = limit - i
+μ-loop down stops count end i₀ i = end - i
 
 loop-holds : tie.Need-loop-holds Inv-loop μ-loop
 loop-holds c =
-    let e : length (c .before .before .args .held .stops) ≡ 16 = search needs in
-    begins (rw e (c .smaller .ensures))
+    let e : length (c .before .before .args .list .stops) ≡ 32 = search needs in
+    begins (rw e (c .held .ensures))
 
 mul-n : tie.Need-mul-n Inv-loop μ-loop
 mul-n c = search needs
@@ -38,5 +38,6 @@ returns-2 c = ends (c .before .loop .inv) (c .loop-test .left) ∙ sym (line-sea
 pub next-line-spec : {M : Type 1} → statement M
 next-line-spec =
     tie.close
-    (tie.spec Inv-loop μ-loop (λ c κs. search needs) loop-holds mul-n array-read-n (λ c. search needs) returns
+    (tie.spec Inv-loop μ-loop (λ c κs. search needs) loop-holds mul-n array-read-n (λ c. search needs)
+    (λ c. search needs) returns
     (λ c. search needs) (λ c. search needs) loop-again returns-2)

@@ -12,14 +12,14 @@ returns c b =
 
 returns-2 : tie.Need-returns-2
 returns-2 c b =
-    let d = c .before .before .before .before in
-    stop-done _ b _ _ (sym (d .before .before .before .before .next-line .ensures) ∙ d .before .before .down .given .1)
+    let d = c .before .before .before .before .before in
+    stop-done _ b _ _ (sym (d .before .before .before .before .next-line .ensures) ∙ d .before .before .place .given .1)
     (rw (d .edge .ensures) at (c .before .before .if1 .taken)) (c .as-step .ensures ∙ rw (c .before .line-to .ensures))
 
 returns-3 : tie.Need-returns-3
 returns-3 c b =
-    let d = c .before .before .before in
-    stop-below _ b _ _ (sym (d .before .before .before .before .next-line .ensures) ∙ d .before .before .down .given .1)
+    let d = c .before .before .before .before in
+    stop-below _ b _ _ (sym (d .before .before .before .before .next-line .ensures) ∙ d .before .before .place .given .1)
     (rw (d .edge .ensures) at (c .before .if1 .left)) (c .to-next-page2 .ensures b)
 
 pub to-next-stop-spec : {M : Type 1} → statement M

@@ -8,14 +8,13 @@ returns : tie.Need-returns
 returns c =
     simp (
       as-flag,
-      c .pack-lines2 .ensures,
-      c .before .pack-columns2 .ensures,
-      c .before .before .before .pack-lines .ensures,
-      c .before .before .before .before .pack-columns .ensures,
+      c .pack-list3 .ensures,
+      c .before .before .pack-list2 .ensures,
+      c .before .before .before .pack-list .ensures,
     )
 
 pub pack-stops-spec : {M : Type 1} → statement M
 pack-stops-spec =
     tie.close
     (tie.spec (λ c κs. search needs) (λ c κs. search needs) (λ c. search needs) (λ c κs. search needs)
-    (λ c κs. search needs) returns)
+    returns)

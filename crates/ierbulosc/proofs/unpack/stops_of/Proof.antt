@@ -6,14 +6,12 @@ use Rattle.ierbulosc.proofs.unpack.stops_of.Tie as tie
 returns : tie.Need-returns
 returns c =
     simp (
-      c .lines-of2 .ensures,
-      c .before .columns-of2 .ensures,
-      c .before .before .before .lines-of .ensures,
-      c .before .before .before .before .columns-of .ensures,
+      c .list-of3 .ensures,
+      c .before .before .list-of2 .ensures,
+      c .before .before .before .list-of .ensures,
     )
 
 pub stops-of-spec : {M : Type 1} → statement M
 stops-of-spec =
     tie.close
-    (tie.spec (λ c κs. search needs) (λ c κs. search needs) (λ c κs. search needs) (λ c κs. search needs)
-    returns)
+    (tie.spec (λ c κs. search needs) (λ c κs. search needs) (λ c κs. search needs) returns)

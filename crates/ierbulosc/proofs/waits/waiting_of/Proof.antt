@@ -1,4 +1,4 @@
--- An arm for each kind of the table, the last for a number that is none.
+-- An arm for each kind, the last for a number that is none.
 use borrow.Author.Needs.{needs}
 use Rattle.printer.specs.Tools.{lookup}
 use Rattle.printer.specs.declared.commands.Waiting.{Waiting}
@@ -12,10 +12,16 @@ unfolding lookup kinds
 waiting-of-spec =
     tie.close
     (tie.spec (λ c κs. search needs) (λ c κs. search needs) (λ c κs. search needs) (λ c κs. search needs)
-    (λ c κs. search needs) (λ c. rw (c .match .keys1)) (λ c. rw (c .before .match .keys2, c .one-of .ensures))
-    (λ c. rw (c .match .keys3)) (λ c. rw (c .match .keys4))
-    (λ c. rw (c .before .match .keys5, c .two-of .ensures))
-    (λ c. rw (c .before .match .keys6, c .two-of2 .ensures))
-    (λ c. rw (c .before .match .keys7, c .tabs-of .ensures))
-    (λ c. rw (c .before .match .keys8, c .density-of .ensures))
-    (λ c. lookup-rest 8 (kinds (c .before .args .w)) Waiting.Nothing _ (c .match .rest)))
+    (λ c κs. search needs) (λ c κs. search needs) (λ c. rw (c .match .keys1))
+    (λ c. rw (c .match .keys2, c .before .after .ensures))
+    (λ c. rw (c .before .match .keys3, c .after2 .ensures, c .before .before .after .ensures))
+    (λ c. rw (c .resumed .ensures, c .before .before .after .ensures, c .before .match .keys4))
+    (λ c.
+    rw (
+      c .resumed2 .ensures,
+      c .before .after4 .ensures,
+      c .before .before .after3 .ensures,
+      c .before .before .before .before .after .ensures,
+      c .before .before .before .match .keys5,
+    ))
+    (λ c. lookup-rest 5 (kinds _ (c .before .before .args .w)) Waiting.Nothing _ (c .match .rest)))

@@ -1,0 +1,18 @@
+-- One more word: an option, or the number after --dots.
+use borrow.Author.Needs.{needs}
+use Rattle.command_line.proofs.Options.word.Statement.{statement}
+use Rattle.command_line.proofs.Options.word.Tie as tie
+
+option : tie.Need-returns
+option c = rw (c .before .before .self .given .1) (c .after-option .ensures)
+
+number : tie.Need-returns-2
+number c =
+    rw (c .before .before .before .self2 .given .1, ← c .before .decimal .ensures) (c .after-dots .ensures)
+
+pub word-spec : {M : Type 1} → statement M
+word-spec =
+    tie.close
+    (tie.spec (λ c. search needs) (λ c κs. search needs) (λ c. search needs) (λ c κs. search needs)
+    (λ c κs. search needs) (λ c. search needs) (λ c. search needs) option number (λ c. search needs)
+    (λ c. search needs))

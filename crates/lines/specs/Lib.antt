@@ -1,2 +1,0 @@
-pub mod HexLines
-pub mod CommandLine

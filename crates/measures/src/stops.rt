@@ -1,0 +1,49 @@
+// Lists of tab stops: how many they hold, and what their bytes mean.
+use printer::commands::Tabs;
+use printer::settings::Settings;
+use printer::stops::TabStops;
+use printer::units::Units;
+ghost use mathlib.Core.Path.{_≡_};
+ghost use Prim.Native.Nat.{_*_, min};
+ghost use Rattle.printer.specs.Performing.{stopOf};
+ghost use Rattle.printer.specs.Deciding.{mostStops};
+
+// How many stops are held: the count, or as many as there is room for.
+pub fn held(count: u32) -> usize
+    ensures { λ r. ⌜ r ≡ min count 32 ⌝ }
+{
+    let n = count as usize;
+    if n < TabStops::ROOM {
+        n
+    } else {
+        TabStops::ROOM
+    }
+}
+
+// At most so many stops of a kind.
+pub fn most(k: Tabs) -> u32
+    ensures { λ r. ⌜ r ≡ mostStops k ⌝ }
+{
+    match k {
+        Tabs::Horizontal => 32,
+        Tabs::Vertical => 16,
+    }
+}
+
+// So many lines, in units.
+fn lines(n: u8, line: Units) -> u64
+    ensures { λ r. ⌜ r ≡ n * line .0 ⌝ }
+{
+    n as u64 * line.0 as u64
+}
+
+// A list byte made a stop: a column, or so many lines.
+pub fn stop_of(s: Settings, k: Tabs, b: u8) -> u64
+    ensures { λ r. ⌜ r ≡ stopOf s k b ⌝ }
+{
+    let line = s.paper.line;
+    match k {
+        Tabs::Horizontal => b as u64,
+        Tabs::Vertical => lines(b, line),
+    }
+}

@@ -1,0 +1,61 @@
+// Base, advance and column width.
+use printer::settings::Pitch;
+use printer::settings::Width;
+use printer::units::Units;
+ghost use mathlib.Core.Path.{_≡_};
+ghost use Prim.Native.Nat.{_≤_};
+ghost use Rattle.printer.specs.Units.{units};
+ghost use Rattle.printer.specs.Widths.{base, doubleWidth, advance, columnWidth};
+
+fn base_units(w: Width) -> u32
+    ensures { λ r. ⌜ (r ≡ base (w .pitch) (w .reduced) (w .proportional)) × (r ≤ 360) ⌝ }
+{
+    let pitch = w.pitch;
+    if w.proportional {
+        if w.reduced { 180 } else { 360 }
+    } else if w.reduced {
+        match pitch {
+            Pitch::Cpi10 => 216,
+            Pitch::Cpi12 => 180,
+            Pitch::Cpi15 => 240,
+        }
+    } else {
+        match pitch {
+            Pitch::Cpi10 => 360,
+            Pitch::Cpi12 => 300,
+            Pitch::Cpi15 => 240,
+        }
+    }
+}
+
+fn advance_units(w: Width) -> u32
+    ensures { λ r. ⌜ (r ≡ advance w) × (r ≤ 10920) ⌝ }
+{
+    let once = base_units(w) + 20 * w.spacing as u32;
+    if double_width(w) { 2 * once } else { once }
+}
+
+// Whether letters print at double width: ESC W 1 or SO.
+pub fn double_width(w: Width) -> bool
+    ensures { λ r. ⌜ r ≡ doubleWidth w ⌝ }
+{
+    w.wide | w.wideonce
+}
+
+// How far a letter moves the position.
+pub fn advance(w: Width) -> Units
+    ensures { λ r. ⌜ r ≡ units (advance w) ⌝ }
+{
+    Units(advance_units(w))
+}
+
+// The width of the columns that margins and tab stops count.
+pub fn column_width(w: Width) -> Units
+    ensures { λ r. ⌜ r ≡ units (columnWidth w) ⌝ }
+{
+    if w.proportional {
+        Units(360)
+    } else {
+        Units(advance_units(w))
+    }
+}
