@@ -4,6 +4,7 @@
  */
 #include "escp.h"
 
+#include <stdbool.h>
 #include <stdio.h>
 #include <string.h>
 
@@ -40,12 +41,13 @@ static bool read_card(uint32_t dots, letters *to)
 {
     const uint8_t *input = (const uint8_t *)card;
     size_t left = sizeof card - 1;
+    escp_settings settings = {.resolution = dots};
     escp_state state;
     escp_counts counts;
     uint8_t out[PIECE * ESCP_ROOM];
 
     to->count = 0;
-    if (escp_start(&state, dots, false) != ESCP_INPUT_USED)
+    if (escp_start(&state, &settings) != ESCP_INPUT_USED)
         return false;
     while (left > 0) {
         size_t piece = left < PIECE ? left : PIECE;

@@ -1,13 +1,14 @@
 /*
- * Ierbulosc: reads the ESC/P legacy page language. Bytes come in, placed records of 14 bytes come out.
+ * Ierbulosc: reads the ESC/P legacy page language. Bytes come in, placed records come out.
  *
  * The library is target/staticlib/libierbulosc.a, made by `rt staticlib ierbulosc`, for x86-64 Linux. Its functions keep
  * nothing between calls, allocate nothing and always return. What they do is proved in crates/ierbulosc and the
  * crates below it; that this header says the same as crates/ierbulosc/src is for its reader to compare.
  *
+ *     escp_settings settings = {.resolution = 300};
  *     escp_state state;
  *     escp_counts counts;
- *     escp_start(&state, 300, false);
+ *     escp_start(&state, &settings);
  *     answer = escp_read(&state, input, input_length, SIZE_MAX, output, output_length, &counts);
  *
  * Input may come in pieces of any length, cut anywhere, even inside a command: the records are those of the whole.
@@ -15,7 +16,6 @@
 #ifndef ESCP_H
 #define ESCP_H
 
-#include <stdbool.h>
 #include <stddef.h>
 #include <stdint.h>
 
@@ -28,16 +28,23 @@ enum {
     ESCP_INPUT_USED = 0,       /* all of the input was read; a start: done */
     ESCP_ALLOWANCE_USED = 1,   /* as many bytes as allowed were read, and input is left */
     ESCP_OUTPUT_FULL = 2,      /* under ESCP_ROOM bytes of output are left, and input and allowance are left */
-    ESCP_SETTINGS_REFUSED = 3, /* a start: neither 300 nor 203 dots */
+    ESCP_SETTINGS_REFUSED = 3, /* a start: the resolution is neither 300 nor 203 */
     ESCP_STATE_REFUSED = 4     /* the state is none that this library leaves */
 };
 
 enum {
-    ESCP_RECORD_SIZE = 14, /* the bytes of a record */
-    ESCP_ROOM = 28,        /* the room that must be left in the output for a byte to be read: it writes at most 2 records */
-    ESCP_COLUMNS = 32,     /* the most horizontal tab stops */
-    ESCP_LINES = 16        /* the most vertical tab stops */
+    ESCP_RECORD_SIZE = 14,            /* the bytes of a record */
+    ESCP_ROOM = 2 * ESCP_RECORD_SIZE, /* must be left in the output to read a byte, which writes at most 2 records */
+    ESCP_TAB_STOPS = 32,              /* the room of a list of tab stops */
+    ESCP_COLUMNS = 32,                /* the most horizontal tab stops */
+    ESCP_LINES = 16                   /* the most vertical tab stops */
 };
+
+/* What a start is asked for. */
+typedef struct escp_settings {
+    uint32_t resolution; /* dots to the inch: 300, or 203 (203 across and 200 down) */
+    uint32_t auto_feed;  /* any number but 0: CR feeds a line */
+} escp_settings;
 
 /*
  * The state of the printer. It is the caller's, to keep, copy, store or read; the library has no other memory.
@@ -101,49 +108,44 @@ typedef struct escp_place {
     uint32_t down;   /* from the top of the page; below the edge */
 } escp_place;
 
-/* Horizontal tab stops, as columns. The first `count` are held: from 1 to 255, ascending strictly. */
-typedef struct escp_columns {
-    uint8_t stops[ESCP_COLUMNS];
-    size_t count;
-} escp_columns;
-
-/* Vertical tab stops, as distances from the top. The first `count` are held: from 1 to 79199, ascending strictly. */
-typedef struct escp_lines {
-    uint32_t stops[ESCP_LINES];
-    size_t count;
-} escp_lines;
+/*
+ * A list of tab stops, of which the first `count` are held, ascending strictly. Horizontal ones are columns, from 1 to
+ * 255, and at most ESCP_COLUMNS. Vertical ones are distances from the top, from 1 to 79199, and at most ESCP_LINES.
+ * Stops past `count` are not looked at.
+ */
+typedef struct escp_tab_stops {
+    uint32_t stops[ESCP_TAB_STOPS];
+    uint32_t count;
+} escp_tab_stops;
 
 /*
- * The stops in force and those of a list that has not ended. The gathered ones are looked at only while such a list is
- * waited for; the last of them is then not above the list byte before, or that byte times the line amount.
+ * The stops in force, and those of a list that has not ended: horizontal ones of ESC D, or vertical ones of ESC B. The
+ * gathered ones are looked at only while such a list is waited for; the last of them is then not above the list byte
+ * before, or for ESC B that byte times the line amount.
  */
 typedef struct escp_stops {
-    escp_columns columns;          /* in force */
-    escp_lines lines;              /* in force */
-    uint8_t line_set;              /* flag: vertical stops were set, though perhaps to none; 0: there are none */
-    escp_columns gathered_columns; /* of an ESC D list that has not ended */
-    escp_lines gathered_lines;     /* of an ESC B list that has not ended */
+    escp_tab_stops columns;  /* horizontal, in force */
+    escp_tab_stops lines;    /* vertical, in force */
+    uint8_t line_set;        /* flag: vertical stops were set, though perhaps to none; 0: there are none */
+    escp_tab_stops gathered; /* of a list that has not ended */
 } escp_stops;
 
 /* What is waited for. */
 enum {
     ESCP_NOTHING = 0,
     ESCP_SECOND_BYTE = 1,     /* an escape's second byte */
-    ESCP_ARGUMENT = 2,        /* the argument of an escape that has one */
-    ESCP_PAGE_LENGTH = 3,     /* the argument of ESC C */
-    ESCP_PAGE_INCHES = 4,     /* the argument of ESC C 0 */
-    ESCP_FIRST_ARGUMENT = 5,  /* the first of two arguments */
-    ESCP_SECOND_ARGUMENT = 6, /* the second of two */
-    ESCP_STOP_LIST = 7,       /* a byte of a tab stop list */
-    ESCP_IMAGE_DATA = 8       /* image data */
+    ESCP_FIRST_ARGUMENT = 2,  /* the first argument of an escape, or its only one */
+    ESCP_SECOND_ARGUMENT = 3, /* the second argument; that of ESC C after 0 */
+    ESCP_STOP_LIST = 4,       /* a byte of a tab stop list */
+    ESCP_IMAGE_DATA = 5       /* image data */
 };
 
 /* Fields that a kind does not use are 0. */
 typedef struct escp_waiting {
     uint8_t kind;     /* ESCP_NOTHING to ESCP_IMAGE_DATA */
-    uint8_t command;  /* kinds 2, 5, 6, 7, 8: the escape's second byte, as 41h for ESC A, 44h for ESC D, 4Bh for ESC K */
-    uint8_t argument; /* kind 6: the first argument; kind 7: the list byte before, 0 at the beginning */
-    uint16_t columns; /* kind 8: the image columns left, 1 to 65535 */
+    uint8_t command;  /* kinds 2 to 5: the escape's second byte, as 41h for ESC A, 44h for ESC D, 4Bh for ESC K */
+    uint8_t argument; /* kind 3: the first argument; kind 4: the list byte before, 0 at the beginning */
+    uint16_t columns; /* kind 5: the image columns left, 1 to 65535 */
 } escp_waiting;
 
 typedef struct escp_state {
@@ -164,20 +166,20 @@ typedef struct escp_counts {
 } escp_counts;
 
 /*
- * Starts a printer of so many dots to the inch: 300, or 203 (203 across and 200 down). `auto_feed` has CR feed a line.
- * What *state held before does not matter. state may not be NULL.
+ * Starts a printer with these settings. What *state held before does not matter. Neither pointer may be NULL, nor may
+ * *state and *settings overlap.
  *
  * 0: *state is the power-on state of these settings.
- * 3: dots is neither 300 nor 203; *state is the power-on state for 300 dots, auto_feed off.
+ * 3: the resolution is neither 300 nor 203; *state is the power-on state for 300 dots, automatic line feed off.
  */
-uint8_t escp_start(escp_state *state, uint32_t dots, bool auto_feed);
+uint8_t escp_start(escp_state *state, const escp_settings *settings);
 
 /*
  * Reads input into records: at most `allowance` bytes of it, and as long as ESCP_ROOM bytes of output are left. Before
  * each byte it tests for the answers 0, 1, 2, in this order.
  *
  * 0, 1, 2: *state is the new state; counts->read bytes of the input were read; counts->written bytes were written at the
- *    beginning of the output, a multiple of 14. To go on after 1 or 2, pass the rest of the input.
+ *    beginning of the output, a multiple of ESCP_RECORD_SIZE. To go on after 1 or 2, pass the rest of the input.
  * 4: *state is none that this library leaves: a field has a value that is not given above, or the whole is outside the
  *    printer's bounds. It is tested before all else. *state stays as it was, and both counts are 0.
  * The output past counts->written stays as it was. *counts is written whatever the answer; what it held does not matter.
@@ -185,7 +187,7 @@ uint8_t escp_start(escp_state *state, uint32_t dots, bool auto_feed);
  * Input and output may be empty (length 0). No pointer may be NULL, even of an empty one, and no two of *state, the
  * output and *counts may overlap, nor one of them with the input.
  *
- * A record is 14 bytes, numbers of two bytes low byte first:
+ * A record is ESCP_RECORD_SIZE bytes, numbers of two bytes low byte first:
  *     0  2  the mark, two letters
  *     2  2  dot column
  *     4  2  dot row

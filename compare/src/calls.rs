@@ -3,14 +3,12 @@
 
 use crate::generate::phrase;
 use crate::random::Random;
-use plain_reader::{read, start, Report, State};
+use ierbulosc::{Settings, RECORD_SIZE, ROOM};
+use plain_reader::{read, Report, State};
 
 #[derive(Clone, PartialEq, Eq, Debug)]
 pub enum Call {
-    Start {
-        dots: u32,
-        auto_feed: bool,
-    },
+    Start(Settings),
     Read {
         input: Vec<u8>,
         allowance: usize,
@@ -32,17 +30,33 @@ pub struct Outcome {
 /// What every output byte is before a call.
 pub const FILL: u8 = 0xE5;
 
+/// Settings that a start refuses.
+pub const REFUSED: Settings = Settings {
+    resolution: 0,
+    auto_feed: 0,
+};
+
+/// An output length with room to read so many bytes, and one more.
+pub fn room_for(length: usize) -> usize {
+    ROOM * (length + 1)
+}
+
+/// The plain reader's start.
+pub fn start(settings: &Settings) -> (u8, State) {
+    plain_reader::start(settings.resolution, settings.auto_feed != 0)
+}
+
 /// The plain reader's outcomes, from the state that a refused start gives.
 pub fn run(calls: &[Call]) -> Vec<Outcome> {
-    let (_, mut state) = start(0, false);
+    let (_, mut state) = start(&REFUSED);
     calls.iter().map(|call| run_one(&mut state, call)).collect()
 }
 
 fn run_one(state: &mut State, call: &Call) -> Outcome {
     let mut out = Vec::new();
     let report = match call {
-        Call::Start { dots, auto_feed } => {
-            let (answer, begun) = start(*dots, *auto_feed);
+        Call::Start(settings) => {
+            let (answer, begun) = start(settings);
             *state = begun;
             Report {
                 answer,
@@ -71,7 +85,7 @@ fn run_one(state: &mut State, call: &Call) -> Outcome {
 /// A generated list of calls, beginning with a start.
 pub fn calls(random: &mut Random) -> Vec<Call> {
     let mut calls = vec![a_start(random)];
-    let (_, mut state) = start(0, false);
+    let (_, mut state) = start(&REFUSED);
     run_one(&mut state, &calls[0]);
     let mut unread = Vec::new();
     let longest = random.pick(&[3, 8, 8, 20, 60]);
@@ -107,15 +121,16 @@ fn a_start(random: &mut Random) -> Call {
         65_536 + 300,
         u32::MAX,
     ];
-    let dots = match random.below(8) {
+    let resolution = match random.below(8) {
         0 => random.pick(&refused),
         1..=3 => 203,
         _ => 300,
     };
-    Call::Start {
-        dots,
-        auto_feed: random.percent(35),
-    }
+    let auto_feed = random.pick(&[0, 0, 0, 0, 0, 0, 1, 1, 2, 256, 1 << 31, u32::MAX]);
+    Call::Start(Settings {
+        resolution,
+        auto_feed,
+    })
 }
 
 /// A reading call of what is unread and some new phrases, or of a beginning of
@@ -151,13 +166,13 @@ fn an_allowance(random: &mut Random, length: usize) -> usize {
 }
 
 fn a_room(random: &mut Random, length: usize) -> usize {
-    let small = [
-        0, 1, 13, 14, 15, 27, 28, 29, 41, 42, 43, 55, 56, 57, 69, 70, 84, 98, 140, 280,
-    ];
     match random.below(10) {
-        0..=3 => random.pick(&small),
-        4 => random.below(28 * length as u64 + 28) as usize,
-        5 => 14 * random.below(40) as usize,
-        _ => 28 * (length + 1),
+        0..=3 => {
+            let whole = RECORD_SIZE * random.pick(&[0, 1, 1, 2, 2, 3, 3, 4, 4, 5, 6, 7, 10, 20]);
+            random.pick(&[whole.saturating_sub(1), whole, whole + 1])
+        }
+        4 => random.below(room_for(length) as u64) as usize,
+        5 => RECORD_SIZE * random.below(40) as usize,
+        _ => room_for(length),
     }
 }

@@ -1,7 +1,7 @@
 //! The fields of a mirror by name, to look at, compare and set.
 
 use ierbulosc::{
-    Columns, Face, Lines, Page, Place, Setup, State, Stops, Style, Waiting, Width, COLUMNS, LINES,
+    Face, Page, Place, Setup, State, Stops, Style, TabStops, Waiting, Width, TAB_STOPS,
 };
 use std::fmt;
 
@@ -33,7 +33,6 @@ enum Number<'a> {
     Byte(&'a mut u8),
     Word(&'a mut u16),
     Long(&'a mut u32),
-    Size(&'a mut usize),
 }
 
 /// One field of a mirror.
@@ -48,7 +47,6 @@ impl Field<'_> {
             Number::Byte(at) => u64::from(**at),
             Number::Word(at) => u64::from(**at),
             Number::Long(at) => u64::from(**at),
-            Number::Size(at) => **at as u64,
         }
     }
 
@@ -58,7 +56,6 @@ impl Field<'_> {
             Number::Byte(at) => **at = number as u8,
             Number::Word(at) => **at = number as u16,
             Number::Long(at) => **at = number as u32,
-            Number::Size(at) => **at = number as usize,
         }
     }
 }
@@ -73,10 +70,6 @@ fn word<'a>(path: &'static str, at: &'a mut u16) -> Field<'a> {
 
 fn long<'a>(path: &'static str, at: &'a mut u32) -> Field<'a> {
     named(path, Number::Long(at))
-}
-
-fn size<'a>(path: &'static str, at: &'a mut usize) -> Field<'a> {
-    named(path, Number::Size(at))
 }
 
 fn named<'a>(path: &'static str, number: Number<'a>) -> Field<'a> {
@@ -96,7 +89,7 @@ pub fn fields(state: &mut State) -> Vec<Field<'_>> {
         stops,
         waiting,
     } = state;
-    let mut fields = Vec::with_capacity(45 + 2 * (COLUMNS + LINES));
+    let mut fields = Vec::with_capacity(37 + 3 * TAB_STOPS);
     fields.extend(of_setup(setup));
     fields.extend(of_width(width));
     fields.extend(of_style(style));
@@ -207,49 +200,30 @@ fn of_stops<'a>(stops: &'a mut Stops, to: &mut Vec<Field<'a>>) {
         columns,
         lines,
         line_set,
-        gathered_columns,
-        gathered_lines,
+        gathered,
     } = stops;
-    of_columns("stops.columns.stops", columns, to);
-    of_lines("stops.lines.stops", lines, to);
+    of_list(["stops.columns.stops", "stops.columns.count"], columns, to);
+    of_list(["stops.lines.stops", "stops.lines.count"], lines, to);
     to.push(byte("stops.line_set", line_set));
-    of_columns("stops.gathered_columns.stops", gathered_columns, to);
-    of_lines("stops.gathered_lines.stops", gathered_lines, to);
+    of_list(
+        ["stops.gathered.stops", "stops.gathered.count"],
+        gathered,
+        to,
+    );
 }
 
-fn of_columns<'a>(path: &'static str, columns: &'a mut Columns, to: &mut Vec<Field<'a>>) {
-    let Columns { stops, count } = columns;
-    let numbers = stops.iter_mut().map(Number::Byte);
-    to.extend(slots(path, numbers));
-    to.push(size(count_of(path), count));
-}
-
-fn of_lines<'a>(path: &'static str, lines: &'a mut Lines, to: &mut Vec<Field<'a>>) {
-    let Lines { stops, count } = lines;
-    let numbers = stops.iter_mut().map(Number::Long);
-    to.extend(slots(path, numbers));
-    to.push(size(count_of(path), count));
-}
-
-fn slots<'a>(
-    path: &'static str,
-    numbers: impl Iterator<Item = Number<'a>>,
-) -> impl Iterator<Item = Field<'a>> {
-    numbers.enumerate().map(move |(slot, number)| {
-        let slot = Some(slot);
-        let name = Name { path, slot };
-        Field { name, number }
-    })
-}
-
-/// The path of the count beside these stops.
-fn count_of(stops: &'static str) -> &'static str {
-    match stops {
-        "stops.columns.stops" => "stops.columns.count",
-        "stops.lines.stops" => "stops.lines.count",
-        "stops.gathered_columns.stops" => "stops.gathered_columns.count",
-        _ => "stops.gathered_lines.count",
-    }
+/// The fields of a list of stops, with the paths of its stops and its count.
+fn of_list<'a>(paths: [&'static str; 2], list: &'a mut TabStops, to: &mut Vec<Field<'a>>) {
+    let TabStops { stops, count } = list;
+    let [path, count_path] = paths;
+    to.extend(stops.iter_mut().enumerate().map(|(slot, stop)| Field {
+        name: Name {
+            path,
+            slot: Some(slot),
+        },
+        number: Number::Long(stop),
+    }));
+    to.push(long(count_path, count));
 }
 
 fn of_waiting(waiting: &mut Waiting) -> [Field<'_>; 4] {

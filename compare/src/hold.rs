@@ -1,10 +1,10 @@
 //! The two readers held against each other, call by call.
 
-use crate::calls::{Call, FILL};
+use crate::calls::{self, Call, FILL};
 use crate::mirror;
-use crate::reckoning::{expected, Printed};
+use crate::reckoning::{expected, Printed, Record};
 use crate::states;
-use ierbulosc::State as Mirror;
+use ierbulosc::{Settings, State as Mirror, RECORD_SIZE};
 use plain_reader::{Report, State, Waiting};
 
 /// A state to begin from, if not from a start, and a list of calls.
@@ -25,9 +25,6 @@ pub struct Came {
     /// The state; none if the plain reader's has no mirror.
     pub state: Option<Mirror>,
 }
-
-/// A record of the proved reader's, as bytes.
-pub type Record = [u8; ierbulosc::RECORD_SIZE];
 
 /// How the readers differ.
 #[derive(Clone, PartialEq, Eq, Debug)]
@@ -91,7 +88,7 @@ pub fn outcomes(case: &Case) -> Vec<(Came, Came)> {
 
 /// The TX and IM records of a call.
 fn letters_and_images(came: &Came) -> impl Iterator<Item = Record> + '_ {
-    let records = came.out[..came.written].chunks_exact(ierbulosc::RECORD_SIZE);
+    let records = came.out[..came.written].chunks_exact(RECORD_SIZE);
     let marked = records.filter(|record| matches!(&record[..2], b"TX" | b"IM"));
     marked.filter_map(|record| record.try_into().ok())
 }
@@ -128,8 +125,8 @@ impl Pair {
                 started: false,
             },
             None => Pair {
-                plain: Some(plain_reader::start(0, false).1),
-                proved: Mirror::start(0, false).1,
+                plain: Some(calls::start(&calls::REFUSED).1),
+                proved: Mirror::start(&calls::REFUSED).1,
                 started: true,
             },
         }
@@ -138,7 +135,7 @@ impl Pair {
     /// What both come back with, and whether it is the same.
     fn call(&mut self, call: &Call) -> (Came, Came, bool) {
         match call {
-            Call::Start { dots, auto_feed } => self.start(*dots, *auto_feed),
+            Call::Start(settings) => self.start(settings),
             Call::Read {
                 input,
                 allowance,
@@ -153,11 +150,11 @@ impl Pair {
     }
 
     /// A start, after which every field is looked at.
-    fn start(&mut self, dots: u32, auto_feed: bool) -> (Came, Came, bool) {
-        let (answer, state) = plain_reader::start(dots, auto_feed);
+    fn start(&mut self, settings: &Settings) -> (Came, Came, bool) {
+        let (answer, state) = calls::start(settings);
         let plain = Came::from_start(answer, mirror::mirror(&state, 0));
         self.plain = Some(state);
-        let (answer, state) = Mirror::start(dots, auto_feed);
+        let (answer, state) = Mirror::start(settings);
         let proved = Came::from_start(answer, Some(state));
         self.proved = state;
         self.started = true;

@@ -18,3 +18,6 @@ pub mod shrink;
 pub mod states;
 pub mod tell;
 pub mod text;
+
+/// The paper's width, in units.
+pub const WIDTH: u64 = 28_800;

@@ -1,16 +1,12 @@
-//! The two forms of a state, each told in the other's: the plain reader's, and
+//! The two forms of a state, each in the other's: the plain reader's, and
 //! the mirror that the library's interface shows.
 
+use crate::states::more_arguments;
 use ierbulosc::{
-    Columns, Face, Lines, Page, Place, Setup, State as Mirror, Stops as MirrorStops, Style,
-    Waiting as MirrorWaiting, Width,
+    Face, Page, Place, Setup, State as Mirror, Stops as MirrorStops, Style, TabStops,
+    Waiting as MirrorWaiting, Width, ROOM,
 };
 use plain_reader::{read, State, Stops, Waiting};
-
-/// Escapes with one argument, but ESC C.
-pub const ONE_ARGUMENT: &[u8] = b"3A+JNlQpSxWw-%tRqk !";
-/// Escapes with two arguments, but ESC C 0.
-pub const TWO_ARGUMENTS: &[u8] = b"$\\KLYZ";
 
 /// The plain state that a mirror stands for. None if a field has a value that
 /// the interface does not give it and the plain state has no place for: a flag
@@ -48,20 +44,11 @@ pub fn plain(mirror: &Mirror) -> Option<State> {
         line_amount: page.line,
         across: mirror.place.across,
         down: mirror.place.down,
-        ..plain_stops(stops, plain_waiting(&mirror.waiting)?)?
-    })
-}
-
-/// A state with these stops and this wait, and no more of the mirror.
-fn plain_stops(stops: &MirrorStops, waiting: Waiting) -> Option<State> {
-    Some(State {
-        horizontal: plain_columns(&stops.columns),
-        vertical: plain_lines(&stops.lines),
+        horizontal: plain_list(&stops.columns),
+        vertical: plain_list(&stops.lines),
         vertical_never_set: !flag(stops.line_set)?,
-        gathered_horizontal: plain_columns(&stops.gathered_columns),
-        gathered_vertical: plain_lines(&stops.gathered_lines),
-        waiting,
-        ..State::power_on(0, false)
+        gathered: plain_list(&stops.gathered),
+        waiting: plain_waiting(&mirror.waiting)?,
     })
 }
 
@@ -73,23 +60,11 @@ fn flag(byte: u8) -> Option<bool> {
     }
 }
 
-fn plain_columns(columns: &Columns) -> Stops<32> {
+fn plain_list(list: &TabStops) -> Stops {
     Stops {
-        stops: columns.stops.map(u32::from),
-        count: plain_count(columns.count),
+        stops: list.stops,
+        count: list.count as usize,
     }
-}
-
-fn plain_lines(lines: &Lines) -> Stops<16> {
-    Stops {
-        stops: lines.stops,
-        count: plain_count(lines.count),
-    }
-}
-
-/// A count; one of more than a byte is too many in either form.
-fn plain_count(count: usize) -> u8 {
-    u8::try_from(count).unwrap_or(u8::MAX)
 }
 
 fn plain_waiting(waiting: &MirrorWaiting) -> Option<Waiting> {
@@ -106,17 +81,13 @@ fn plain_waiting(waiting: &MirrorWaiting) -> Option<Waiting> {
             columns: u32::from(waiting.columns),
         })
     };
-    let one = ONE_ARGUMENT.contains(&waiting.command);
-    let two = TWO_ARGUMENTS.contains(&waiting.command);
+    let more = |given| more_arguments(waiting.command, given, waiting.argument);
     let last = waiting.argument;
     match (waiting.kind, waiting.command, last, waiting.columns) {
         (ierbulosc::NOTHING, 0, 0, 0) => Some(Waiting::Nothing),
         (ierbulosc::SECOND_BYTE, 0, 0, 0) => Some(Waiting::SecondByte),
-        (ierbulosc::ARGUMENT, command, 0, 0) if one => arguments(command, 0, 0),
-        (ierbulosc::PAGE_LENGTH, 0, 0, 0) => arguments(b'C', 0, 0),
-        (ierbulosc::PAGE_INCHES, 0, 0, 0) => arguments(b'C', 1, 0),
-        (ierbulosc::FIRST_ARGUMENT, command, 0, 0) if two => arguments(command, 0, 0),
-        (ierbulosc::SECOND_ARGUMENT, command, first, 0) if two => arguments(command, 1, first),
+        (ierbulosc::FIRST_ARGUMENT, command, 0, 0) if more(0) => arguments(command, 0, 0),
+        (ierbulosc::SECOND_ARGUMENT, command, first, 0) if more(1) => arguments(command, 1, first),
         (ierbulosc::STOP_LIST, b'D', _, 0) => Some(Waiting::HorizontalStops { last }),
         (ierbulosc::STOP_LIST, b'B', _, 0) => Some(Waiting::VerticalStops { last }),
         (ierbulosc::IMAGE_DATA, b'K', 0, _) => image(60),
@@ -189,30 +160,18 @@ fn mirror_face(state: &State) -> Face {
 
 fn mirror_stops(state: &State) -> Option<MirrorStops> {
     Some(MirrorStops {
-        columns: mirror_columns(&state.horizontal)?,
-        lines: mirror_lines(&state.vertical),
+        columns: mirror_list(&state.horizontal)?,
+        lines: mirror_list(&state.vertical)?,
         line_set: u8::from(!state.vertical_never_set),
-        gathered_columns: mirror_columns(&state.gathered_horizontal)?,
-        gathered_lines: mirror_lines(&state.gathered_vertical),
+        gathered: mirror_list(&state.gathered)?,
     })
 }
 
-fn mirror_columns(list: &Stops<32>) -> Option<Columns> {
-    let mut columns = Columns {
-        count: usize::from(list.count),
-        ..Columns::NONE
-    };
-    for (to, &stop) in columns.stops.iter_mut().zip(&list.stops) {
-        *to = u8::try_from(stop).ok()?;
-    }
-    Some(columns)
-}
-
-fn mirror_lines(list: &Stops<16>) -> Lines {
-    Lines {
+fn mirror_list(list: &Stops) -> Option<TabStops> {
+    Some(TabStops {
         stops: list.stops,
-        count: usize::from(list.count),
-    }
+        count: u32::try_from(list.count).ok()?,
+    })
 }
 
 fn mirror_waiting(waiting: Waiting, thirty: u8) -> Option<MirrorWaiting> {
@@ -246,41 +205,46 @@ fn mirror_waiting(waiting: Waiting, thirty: u8) -> Option<MirrorWaiting> {
 }
 
 fn arguments_waited_for(command: u8, given: u8, first: u8) -> Option<(u8, u8, u8, u16)> {
-    let one = ONE_ARGUMENT.contains(&command);
-    let two = TWO_ARGUMENTS.contains(&command);
-    match (command, given, first) {
-        (b'C', 0, _) => Some((ierbulosc::PAGE_LENGTH, 0, 0, 0)),
-        (b'C', 1, 0) => Some((ierbulosc::PAGE_INCHES, 0, 0, 0)),
-        (_, 0, _) if one => Some((ierbulosc::ARGUMENT, command, 0, 0)),
-        (_, 0, _) if two => Some((ierbulosc::FIRST_ARGUMENT, command, 0, 0)),
-        (_, 1, _) if two => Some((ierbulosc::SECOND_ARGUMENT, command, first, 0)),
-        _ => None,
+    if !more_arguments(command, given, first) {
+        return None;
+    }
+    match given {
+        0 => Some((ierbulosc::FIRST_ARGUMENT, command, 0, 0)),
+        _ => Some((ierbulosc::SECOND_ARGUMENT, command, first, 0)),
     }
 }
 
-/// Whether a list of ESC D (`D`) or ESC B (`B`) is gathered.
-fn gathers(mirror: &Mirror, command: u8) -> bool {
-    mirror.waiting.kind == ierbulosc::STOP_LIST && mirror.waiting.command == command
+/// Whether a list of stops is gathered.
+pub fn gathers(mirror: &Mirror) -> bool {
+    mirror.waiting.kind == ierbulosc::STOP_LIST
 }
 
-/// The mirror with the parts that no rule looks at made 0: slots past a count,
-/// and a gathering place while no such list is gathered.
+/// All stops of a mirror that no rule looks at: in slots past a count, and in
+/// the gathering place while no list is gathered.
+pub fn unseen_stops(mirror: &mut Mirror) -> impl Iterator<Item = &mut u32> {
+    let gathers = gathers(mirror);
+    let MirrorStops {
+        columns,
+        lines,
+        gathered,
+        ..
+    } = &mut mirror.stops;
+    let seen = if gathers { gathered.count } else { 0 };
+    past(columns.count, &mut columns.stops)
+        .chain(past(lines.count, &mut lines.stops))
+        .chain(past(seen, &mut gathered.stops))
+}
+
+fn past(count: u32, stops: &mut [u32]) -> impl Iterator<Item = &mut u32> {
+    stops.iter_mut().skip(count as usize)
+}
+
+/// The mirror with the parts that no rule looks at made 0.
 pub fn normal(mirror: &Mirror) -> Mirror {
     let mut normal = *mirror;
-    let stops = &mut normal.stops;
-    if !gathers(mirror, b'D') {
-        stops.gathered_columns = Columns::NONE;
-    }
-    if !gathers(mirror, b'B') {
-        stops.gathered_lines = Lines::NONE;
-    }
-    for columns in [&mut stops.columns, &mut stops.gathered_columns] {
-        let unseen = columns.stops.iter_mut().skip(columns.count);
-        unseen.for_each(|stop| *stop = 0);
-    }
-    for lines in [&mut stops.lines, &mut stops.gathered_lines] {
-        let unseen = lines.stops.iter_mut().skip(lines.count);
-        unseen.for_each(|stop| *stop = 0);
+    unseen_stops(&mut normal).for_each(|stop| *stop = 0);
+    if !gathers(mirror) {
+        normal.stops.gathered.count = 0;
     }
     normal
 }
@@ -297,7 +261,7 @@ pub fn image_command(before: &State, first: u8, bytes: &[u8]) -> u8 {
         {
             image = command;
         }
-        read(&mut state, &[byte], 1, &mut [0; 28]);
+        read(&mut state, &[byte], 1, &mut [0; ROOM]);
     }
     image
 }

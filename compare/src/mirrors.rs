@@ -5,9 +5,10 @@ use crate::calls::{self, Call};
 use crate::fields::{fields, Field};
 use crate::generate;
 use crate::hold::Case;
-use crate::mirror::{mirror, ONE_ARGUMENT, TWO_ARGUMENTS};
+use crate::mirror::{gathers, mirror, unseen_stops};
 use crate::random::Random;
-use crate::states;
+use crate::states::{self, ONE_ARGUMENT, TWO_ARGUMENTS};
+use crate::WIDTH;
 use ierbulosc::{State as Mirror, Waiting};
 
 /// A mirror of any sort, and one to three reading calls on it.
@@ -30,7 +31,7 @@ fn whole_reading(random: &mut Random) -> Call {
     let input = generate::input(random, phrases);
     Call::Read {
         allowance: usize::MAX,
-        room: 28 * (input.len() + 1),
+        room: calls::room_for(input.len()),
         input,
     }
 }
@@ -84,16 +85,19 @@ fn change(random: &mut Random, state: &mut Mirror) {
     fields[at].set(number);
 }
 
-/// Numbers beside which a bound lies.
-const LIMITS: [u64; 22] = [
-    3, 4, 13, 14, 16, 17, 32, 33, 64, 127, 128, 255, 256, 3_599, 3_600, 5_100, 5_101, 28_800,
-    28_801, 79_199, 79_200, 79_201,
+/// Numbers beside which a bound lies, but for the paper's width.
+const LIMITS: [u64; 20] = [
+    3, 4, 13, 14, 16, 17, 32, 33, 64, 127, 128, 255, 256, 3_599, 3_600, 5_100, 5_101, 79_199,
+    79_200, 79_201,
 ];
 
 /// A number beside the field's own, a small one, a great one or any.
 fn some_number(random: &mut Random, field: &Field) -> u64 {
     match random.below(9) {
-        8 => random.pick(&LIMITS),
+        8 => match random.below(11) {
+            0 => WIDTH + random.below(2),
+            _ => random.pick(&LIMITS),
+        },
         0 => field.get().wrapping_add(1),
         1 => field.get().wrapping_sub(1),
         2 => random.pick(&[0, 1]),
@@ -118,7 +122,7 @@ fn any_waiting(random: &mut Random) -> Waiting {
         _ => random.pick(ONE_ARGUMENT),
     };
     Waiting {
-        kind: random.pick(&[0, 1, 2, 2, 3, 4, 5, 6, 7, 8, 8, 9, 255]),
+        kind: random.pick(&[0, 1, 2, 2, 3, 3, 4, 4, 5, 5, 6, 7, 8, 255]),
         command,
         argument: random.pick(&[0, 0, 0, 1, 255]),
         columns: random.pick(&[0, 0, 0, 1, 2, 65_535]),
@@ -128,31 +132,15 @@ fn any_waiting(random: &mut Random) -> Waiting {
 /// A mirror inside the bounds with any numbers where no rule looks.
 fn with_unseen_parts(random: &mut Random) -> Mirror {
     let mut state = accepted(random);
-    let stops = &mut state.stops;
-    let list = match state.waiting.kind {
-        ierbulosc::STOP_LIST => state.waiting.command,
-        _ => 0,
-    };
-    if list != b'D' && random.flag() {
-        let counts = [0, 1, 31, 32, 33, 255, 256, usize::MAX];
-        stops.gathered_columns.count = random.pick(&counts);
+    if !gathers(&state) && random.flag() {
+        state.stops.gathered.count = states::a_count(random);
     }
-    if list != b'B' && random.flag() {
-        let counts = [0, 1, 15, 16, 17, 255, 256, usize::MAX];
-        stops.gathered_lines.count = random.pick(&counts);
+    for stop in unseen_stops(&mut state) {
+        *stop = match random.flag() {
+            true => random.byte().into(),
+            false => random.number() as u32,
+        };
     }
-    let (seen, gathered) = match list {
-        b'D' => (stops.gathered_columns.count, 0),
-        b'B' => (0, stops.gathered_lines.count),
-        _ => (0, 0),
-    };
-    let columns = stops.columns.stops.iter_mut().skip(stops.columns.count);
-    let unseen = stops.gathered_columns.stops.iter_mut().skip(seen);
-    columns.chain(unseen).for_each(|stop| *stop = random.byte());
-    let lines = stops.lines.stops.iter_mut().skip(stops.lines.count);
-    let unseen = stops.gathered_lines.stops.iter_mut().skip(gathered);
-    let all = lines.chain(unseen);
-    all.for_each(|stop| *stop = random.number() as u32);
     state
 }
 

@@ -12,16 +12,20 @@
 //!
 //! Which stop HT or VT takes is found from the lists and places kept here.
 
-use crate::calls::Call;
+use crate::calls::{self, Call};
 use crate::received::{Received, Receiving};
 use crate::settings::Settings;
+use ierbulosc::{RECORD_SIZE, ROOM};
 use plain_reader::State;
+
+/// A record as bytes.
+pub type Record = [u8; RECORD_SIZE];
 
 /// A letter or image byte that the rules print.
 #[derive(Clone, Copy, PartialEq, Eq, Debug)]
 pub struct Printed {
     /// The TX or IM record that is due.
-    pub record: [u8; 14],
+    pub record: Record,
     /// The exact place, in units.
     pub across: i64,
     pub down: i64,
@@ -70,9 +74,9 @@ impl Reckoning {
     /// Before any call: as after a refused start.
     pub fn new() -> Reckoning {
         Reckoning {
-            steps: plain_reader::start(0, false).1,
+            steps: calls::start(&calls::REFUSED).1,
             receiving: Receiving::Fresh,
-            settings: Settings::of_start(0, false),
+            settings: Settings::of_start(&calls::REFUSED),
             across: Exact::default(),
             down: Exact::default(),
             printed: Vec::new(),
@@ -80,10 +84,10 @@ impl Reckoning {
     }
 
     /// A start, accepted or refused, begins anew; what is printed stays.
-    pub fn start(&mut self, dots: u32, auto_feed: bool) {
-        self.steps = plain_reader::start(dots, auto_feed).1;
+    pub fn start(&mut self, settings: &ierbulosc::Settings) {
+        self.steps = calls::start(settings).1;
         self.receiving = Receiving::Fresh;
-        self.settings = Settings::of_start(dots, auto_feed);
+        self.settings = Settings::of_start(settings);
         self.across = Exact::default();
         self.down = Exact::default();
     }
@@ -102,17 +106,17 @@ impl Reckoning {
     /// A call, and how many bytes its answer says were read.
     pub fn call(&mut self, call: &Call, read: usize) {
         match call {
-            Call::Start { dots, auto_feed } => self.start(*dots, *auto_feed),
+            Call::Start(settings) => self.start(settings),
             Call::Read { input, .. } => self.read(input, read),
         }
     }
 
     fn step(&mut self, byte: u8) -> Learnt {
-        let mut out = [0; 28];
+        let mut out = [0; ROOM];
         let report = plain_reader::read(&mut self.steps, &[byte], 1, &mut out);
         assert_eq!(report.read, 1, "the plain reader refuses its own state");
         let mut learnt = Learnt::default();
-        for record in out[..report.written].chunks_exact(14) {
+        for record in out[..report.written].chunks_exact(RECORD_SIZE) {
             match &record[..2] {
                 b"NO" => learnt.passed_over = true,
                 b"LN" => learnt.pages = Some(record[6]),
@@ -172,19 +176,19 @@ impl Reckoning {
     }
 
     /// A record at the exact place: mark, column, row, byte and advance.
-    fn print(&self, mark: [u8; 2], byte: u8, advance: i64) -> [u8; 14] {
+    fn print(&self, mark: [u8; 2], byte: u8, advance: i64) -> Record {
         let column = dot(self.across.at(), self.settings.dots.0);
         let row = dot(self.down.at(), self.settings.dots.1);
-        let mut record = [0; 14];
+        let mut record = [0; RECORD_SIZE];
         record[..2].copy_from_slice(&mark);
         record[2..4].copy_from_slice(&column.to_le_bytes());
         record[4..6].copy_from_slice(&row.to_le_bytes());
         record[6] = byte;
-        record[12..].copy_from_slice(&(advance as u16).to_le_bytes());
+        record[12..14].copy_from_slice(&(advance as u16).to_le_bytes());
         record
     }
 
-    fn add(&mut self, record: [u8; 14], advance: i64) {
+    fn add(&mut self, record: Record, advance: i64) {
         let across = self.across.at();
         self.printed.push(Printed {
             record,

@@ -1,6 +1,7 @@
 //! The settings in force, kept from the starts and the commands done.
 
 use crate::received::List;
+use crate::WIDTH;
 
 const BOLD: u16 = 1;
 const DOUBLE_STRIKE: u16 = 1 << 1;
@@ -48,7 +49,7 @@ impl Settings {
             dots,
             auto_feed,
             left: 0,
-            right: 28_800,
+            right: WIDTH as i64,
             page: 39_600,
             skip: 0,
             line: 600,
@@ -67,8 +68,9 @@ impl Settings {
     }
 
     /// The settings of a start, accepted or refused.
-    pub fn of_start(dots: u32, auto_feed: bool) -> Settings {
-        match dots {
+    pub fn of_start(asked: &ierbulosc::Settings) -> Settings {
+        let auto_feed = asked.auto_feed != 0;
+        match asked.resolution {
             300 => Settings::power_on((300, 300), auto_feed),
             203 => Settings::power_on((203, 200), auto_feed),
             _ => Settings::power_on((300, 300), false),

@@ -4,7 +4,7 @@ use crate::calls::Call;
 use crate::fields::fields;
 use crate::hold::{difference, Case, Tally};
 use crate::shrink::shrink;
-use ierbulosc::State as Mirror;
+use ierbulosc::{Settings, State as Mirror};
 
 const TRIES: usize = 20_000;
 
@@ -61,10 +61,9 @@ fn sooner_end(case: &Case) -> Case {
 /// Sets a part of the first state as it is in the second.
 type Part = fn(&mut Mirror, &Mirror);
 
-const PARTS: [Part; 10] = [
+const PARTS: [Part; 9] = [
     |to, from| to.waiting = from.waiting,
-    |to, from| to.stops.gathered_columns = from.stops.gathered_columns,
-    |to, from| to.stops.gathered_lines = from.stops.gathered_lines,
+    |to, from| to.stops.gathered = from.stops.gathered,
     |to, from| to.stops.columns = from.stops.columns,
     |to, from| to.stops.lines = from.stops.lines,
     |to, from| (to.page, to.place) = (from.page, from.place),
@@ -84,7 +83,7 @@ fn plainer_state(case: &Case) -> Case {
         state: Some(state),
         calls: case.calls.clone(),
     };
-    let (_, mut power_on) = Mirror::start(300, false);
+    let (_, mut power_on) = Mirror::start(&Settings::default());
     for part in PARTS {
         let mut candidate = best;
         part(&mut candidate, &power_on);

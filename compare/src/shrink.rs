@@ -1,6 +1,7 @@
 //! A shorter list of calls that still fails.
 
-use crate::calls::Call;
+use crate::calls::{room_for, Call};
+use ierbulosc::Settings;
 
 struct Search<'a> {
     best: Vec<Call>,
@@ -135,15 +136,15 @@ impl Search<'_> {
 /// Calls like this one, each with one thing made plain.
 fn simpler(call: &Call) -> Vec<Call> {
     match call {
-        Call::Start { dots, auto_feed } => vec![
-            Call::Start {
-                dots: 300,
-                auto_feed: *auto_feed,
-            },
-            Call::Start {
-                dots: *dots,
-                auto_feed: false,
-            },
+        Call::Start(settings) => vec![
+            Call::Start(Settings {
+                resolution: 300,
+                ..*settings
+            }),
+            Call::Start(Settings {
+                auto_feed: 0,
+                ..*settings
+            }),
         ],
         Call::Read {
             input,
@@ -153,7 +154,7 @@ fn simpler(call: &Call) -> Vec<Call> {
             Call::Read {
                 input: input.clone(),
                 allowance: input.len(),
-                room: 28 * (input.len() + 1),
+                room: room_for(input.len()),
             },
             Call::Read {
                 input: input.clone(),
@@ -163,7 +164,7 @@ fn simpler(call: &Call) -> Vec<Call> {
             Call::Read {
                 input: input.clone(),
                 allowance: *allowance,
-                room: 28 * (input.len() + 1),
+                room: room_for(input.len()),
             },
         ],
     }

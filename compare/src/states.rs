@@ -1,13 +1,45 @@
 //! Arbitrary states: reached or made up inside the bounds, then with one or a
 //! few fields set at, inside and outside their bounds.
 
+use crate::calls::room_for;
 use crate::generate;
 use crate::random::Random;
+use crate::WIDTH;
 use plain_reader::{read, start, State, Stops, Waiting};
 
-const WIDTH: u64 = 28_800;
 const LONGEST: u64 = 79_200;
-const LISTED: &[u8] = b"3A+JNlQpSxWw-%tRqk !$\\KLYZC";
+
+/// The bounds of a list of stops: how many there are, and how high they are.
+#[derive(Clone, Copy)]
+struct Limits {
+    most: usize,
+    highest: u64,
+}
+
+const COLUMNS: Limits = Limits {
+    most: ierbulosc::COLUMNS,
+    highest: 255,
+};
+const LINES: Limits = Limits {
+    most: ierbulosc::LINES,
+    highest: LONGEST - 1,
+};
+
+/// Escapes with one argument, but ESC C.
+pub const ONE_ARGUMENT: &[u8] = b"3A+JNlQpSxWw-%tRqk !";
+/// Escapes with two arguments, but ESC C 0.
+pub const TWO_ARGUMENTS: &[u8] = b"$\\KLYZ";
+
+/// Whether an escape waits for arguments after so many, of which this is the
+/// first.
+pub fn more_arguments(command: u8, given: u8, first: u8) -> bool {
+    let two = TWO_ARGUMENTS.contains(&command);
+    match given {
+        0 => two || command == b'C' || ONE_ARGUMENT.contains(&command),
+        1 => two || (command, first) == (b'C', 0),
+        _ => false,
+    }
+}
 
 /// A state that the plain reader reaches on a generated input.
 pub fn reached(random: &mut Random) -> State {
@@ -16,7 +48,7 @@ pub fn reached(random: &mut Random) -> State {
     let phrases = random.below(30);
     let input = generate::input(random, phrases);
     let cut = random.between(input.len() as u64 / 2, input.len() as u64);
-    let mut out = vec![0; 28 * (input.len() + 1)];
+    let mut out = vec![0; room_for(input.len())];
     read(&mut state, &input, cut as usize, &mut out);
     state
 }
@@ -44,8 +76,8 @@ pub fn inside(random: &mut Random) -> State {
     for _ in 0..random.below(12) {
         toggle(random, &mut state);
     }
-    state.horizontal = ascending(random, 32, 255);
-    state.vertical = ascending(random, 16, LONGEST - 1);
+    state.horizontal = ascending(random, COLUMNS);
+    state.vertical = ascending(random, LINES);
     state.vertical_never_set = random.flag();
     if state.vertical_never_set {
         state.vertical.count = 0;
@@ -70,18 +102,16 @@ pub fn arbitrary(random: &mut Random) -> State {
 }
 
 /// The state with the parts that no rule looks at made 0: slots past a count,
-/// a gathering place while no such list is gathered, an argument not given.
+/// the gathering place while no list is gathered, an argument not given.
 pub fn normal(state: &State) -> State {
     let mut state = state.clone();
     clear_past_count(&mut state.horizontal);
     clear_past_count(&mut state.vertical);
-    clear_past_count(&mut state.gathered_horizontal);
-    clear_past_count(&mut state.gathered_vertical);
-    if !matches!(state.waiting, Waiting::HorizontalStops { .. }) {
-        state.gathered_horizontal = no_stops();
-    }
-    if !matches!(state.waiting, Waiting::VerticalStops { .. }) {
-        state.gathered_vertical = no_stops();
+    match state.waiting {
+        Waiting::HorizontalStops { .. } | Waiting::VerticalStops { .. } => {
+            clear_past_count(&mut state.gathered);
+        }
+        _ => state.gathered = Stops::EMPTY,
     }
     if let Waiting::Arguments {
         given: 0, first, ..
@@ -92,16 +122,9 @@ pub fn normal(state: &State) -> State {
     state
 }
 
-fn no_stops<const N: usize>() -> Stops<N> {
-    Stops {
-        stops: [0; N],
-        count: 0,
-    }
-}
-
-fn clear_past_count<const N: usize>(list: &mut Stops<N>) {
-    let count = usize::from(list.count);
-    list.stops.iter_mut().skip(count).for_each(|stop| *stop = 0);
+fn clear_past_count(list: &mut Stops) {
+    let unseen = list.stops.iter_mut().skip(list.count);
+    unseen.for_each(|stop| *stop = 0);
 }
 
 fn between(random: &mut Random, first: u32, last: u32) -> u32 {
@@ -144,10 +167,10 @@ pub fn change(random: &mut Random, state: &mut State) {
         13 => state.font = random.byte(),
         14 => toggle(random, state),
         15 => change_never_set(random, state),
-        16 => change_list(random, &mut state.horizontal, 255),
-        17 => change_list(random, &mut state.vertical, LONGEST - 1),
-        18 => change_list(random, &mut state.gathered_horizontal, 255),
-        19 => change_list(random, &mut state.gathered_vertical, LONGEST - 1),
+        16 => change_list(random, &mut state.horizontal, COLUMNS),
+        17 => change_list(random, &mut state.vertical, LINES),
+        18 => change_list(random, &mut state.gathered, COLUMNS),
+        19 => change_list(random, &mut state.gathered, LINES),
         20 => await_arguments(random, state),
         21 => await_list(random, state),
         22 => await_image(random, state),
@@ -182,55 +205,77 @@ fn toggle(random: &mut Random, state: &mut State) {
 fn change_never_set(random: &mut Random, state: &mut State) {
     state.vertical_never_set = !state.vertical_never_set;
     if random.flag() {
-        state.vertical = ascending(random, 16, LONGEST - 1);
+        state.vertical = ascending(random, LINES);
     }
 }
 
+/// A count of stops inside, at, beside or far from its limits.
+pub fn a_count(random: &mut Random) -> u32 {
+    random.pick(&[0, 1, 15, 16, 17, 31, 32, 33, 255, 256, 65_536, u32::MAX])
+}
+
 /// A list inside its bounds, of any length up to the most.
-fn ascending<const N: usize>(random: &mut Random, most: u64, highest: u64) -> Stops<N> {
-    let mut list = no_stops();
-    let wanted = random.pick(&[0, 1, 3, 8, most - 1, most]).min(most);
+fn ascending(random: &mut Random, limits: Limits) -> Stops {
+    let most = limits.most;
+    let wanted = random.pick(&[0, 1, 3, 8, most - 1, most]);
+    so_many(random, wanted, limits.highest)
+}
+
+/// So many stops, ascending up to the highest.
+fn so_many(random: &mut Random, wanted: usize, highest: u64) -> Stops {
+    let mut list = Stops::EMPTY;
     let mut last = 0;
-    for slot in 0..wanted {
-        let room = (highest - last) / (wanted - slot);
+    for (slot, stop) in list.stops.iter_mut().take(wanted).enumerate() {
+        let room = (highest - last) / (wanted - slot) as u64;
         last = random.between(last + 1, last + room.max(1)).min(highest);
-        list.stops[slot as usize] = last as u32;
+        *stop = last as u32;
     }
-    list.count = wanted as u8;
+    list.count = wanted;
     list
 }
 
 /// Sets a list's count or one of its stops, or makes it a new one.
-fn change_list<const N: usize>(random: &mut Random, list: &mut Stops<N>, highest: u64) {
-    let count = usize::from(list.count).min(N);
-    let slot = random.below(count.max(1) as u64) as usize;
-    let other = list.stops[random.below(N as u64) as usize];
-    match random.below(12) {
-        0 => list.count = random.pick(&[N as u8, N as u8 + 1, 255, 128, 33, 17]),
-        1 => list.count = list.count.wrapping_add(1),
-        2 => list.count = list.count.saturating_sub(1),
-        3 => list.stops[slot] = near(random, 1, highest as u32),
-        4 => list.stops[slot] = other,
-        5 => list.stops[slot] = list.stops[slot].wrapping_add(1),
-        6 => list.stops[count.saturating_sub(1)] = near(random, 1, highest as u32),
-        7 => list.stops[N - 1] = random.number() as u32,
-        8 => list.stops.swap(slot, 0),
-        9 => list.stops[count.saturating_sub(1)] = (highest + random.below(2)) as u32,
-        _ => *list = ascending(random, N as u64, highest),
+fn change_list(random: &mut Random, list: &mut Stops, limits: Limits) {
+    let Limits { most, highest } = limits;
+    let room = list.stops.len();
+    let held = list.count.clamp(1, room);
+    let slot = random.below(held as u64) as usize;
+    let other = list.stops[random.below(room as u64) as usize];
+    match random.below(14) {
+        0 => list.count = a_count(random) as usize,
+        1 => {
+            *list = so_many(random, room, highest);
+            list.count = random.pick(&[most, most + 1]);
+        }
+        2 => list.count = list.count.wrapping_add(1),
+        3 => list.count = list.count.saturating_sub(1),
+        4 => list.stops[slot] = near(random, 1, highest as u32),
+        5 => list.stops[slot] = other,
+        6 => list.stops[slot] = list.stops[slot].wrapping_add(1),
+        7 => list.stops[held - 1] = near(random, 1, highest as u32),
+        8 => list.stops[random.pick(&[most, room]) - 1] = random.number() as u32,
+        9 => list.stops.swap(slot, 0),
+        10 => list.stops[held - 1] = (highest + random.below(2)) as u32,
+        11 => {
+            *list = so_many(random, room, highest);
+            list.count = a_count(random) as usize;
+        }
+        _ => *list = ascending(random, limits),
     }
 }
 
 /// Arguments of a listed or any other command, some of them given.
 fn await_arguments(random: &mut Random, state: &mut State) {
-    let command = match random.below(5) {
-        0 => random.byte(),
-        1 => random.pick(b"BD@E0&*\x0F\x1B"),
-        _ => random.pick(LISTED),
+    let command = match random.below(10) {
+        0 | 1 => random.byte(),
+        2 | 3 => random.pick(b"BD@E0&*\x0F\x1B"),
+        4 => b'C',
+        5 | 6 => random.pick(TWO_ARGUMENTS),
+        _ => random.pick(ONE_ARGUMENT),
     };
-    let two = b"$\\KLYZC".contains(&command);
     let given = match random.below(6) {
         0 => random.pick(&[1, 2, 3, 255]),
-        1..=3 if two => 1,
+        1..=3 if more_arguments(command, 1, 0) => 1,
         _ => 0,
     };
     state.waiting = Waiting::Arguments {
@@ -240,38 +285,50 @@ fn await_arguments(random: &mut Random, state: &mut State) {
     };
 }
 
-/// A list being gathered, whose last byte is at, above or below its last stop.
+/// A list being gathered, whose last byte is at, above or below its last stop:
+/// a new one, or of what the gathering place held.
 fn await_list(random: &mut Random, state: &mut State) {
     if random.flag() {
-        if random.flag() {
-            change_list(random, &mut state.gathered_horizontal, 255);
-        }
-        let last = last_stop(&state.gathered_horizontal);
-        state.waiting = Waiting::HorizontalStops {
-            last: beside(random, last),
-        };
+        await_columns(random, state);
     } else {
-        if random.flag() {
-            change_list(random, &mut state.gathered_vertical, LONGEST - 1);
-        }
-        if random.flag() {
-            state.gathered_vertical = lines(random, state.line_amount);
-        }
-        let line = u64::from(state.line_amount.max(1));
-        let stop = last_stop(&state.gathered_vertical);
-        let last = beside(random, stop.div_ceil(line));
-        state.waiting = Waiting::VerticalStops { last };
-        let count = usize::from(state.gathered_vertical.count);
-        if (1..=16).contains(&count) && random.percent(30) {
-            let reach = u32::from(last).wrapping_mul(state.line_amount);
-            let stop = random.pick(&[reach, reach.wrapping_add(1), reach.wrapping_sub(1)]);
-            state.gathered_vertical.stops[count - 1] = stop;
-        }
+        await_lines(random, state);
     }
 }
 
-fn last_stop<const N: usize>(list: &Stops<N>) -> u64 {
-    let count = usize::from(list.count).min(N);
+fn await_columns(random: &mut Random, state: &mut State) {
+    if random.flag() {
+        state.gathered = ascending(random, COLUMNS);
+    }
+    if random.flag() {
+        change_list(random, &mut state.gathered, COLUMNS);
+    }
+    let last = last_stop(&state.gathered);
+    state.waiting = Waiting::HorizontalStops {
+        last: beside(random, last),
+    };
+}
+
+fn await_lines(random: &mut Random, state: &mut State) {
+    if random.flag() {
+        state.gathered = lines(random, state.line_amount);
+    }
+    if random.flag() {
+        change_list(random, &mut state.gathered, LINES);
+    }
+    let line = u64::from(state.line_amount.max(1));
+    let stop = last_stop(&state.gathered);
+    let last = beside(random, stop.div_ceil(line));
+    state.waiting = Waiting::VerticalStops { last };
+    let count = state.gathered.count;
+    if (1..=LINES.most).contains(&count) && random.percent(30) {
+        let reach = u32::from(last).wrapping_mul(state.line_amount);
+        let stop = random.pick(&[reach, reach.wrapping_add(1), reach.wrapping_sub(1)]);
+        state.gathered.stops[count - 1] = stop;
+    }
+}
+
+fn last_stop(list: &Stops) -> u64 {
+    let count = list.count.min(list.stops.len());
     list.stops[..count].last().map_or(0, |&stop| stop.into())
 }
 
@@ -287,8 +344,12 @@ fn beside(random: &mut Random, number: u64) -> u8 {
 }
 
 /// Vertical stops as ESC B sets them at this line amount.
-fn lines(random: &mut Random, line_amount: u32) -> Stops<16> {
-    let mut list: Stops<16> = ascending(random, 16, 255);
+fn lines(random: &mut Random, line_amount: u32) -> Stops {
+    let bytes = Limits {
+        highest: 255,
+        ..LINES
+    };
+    let mut list = ascending(random, bytes);
     for stop in &mut list.stops {
         *stop = stop.wrapping_mul(line_amount);
     }

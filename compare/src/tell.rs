@@ -3,7 +3,7 @@
 use crate::calls::FILL;
 use crate::fields;
 use crate::hold::{Came, Difference};
-use crate::reckoning::Printed;
+use crate::reckoning::{Printed, Record};
 use std::fmt::Write;
 
 /// How many records of a kind are shown.
@@ -104,7 +104,7 @@ fn record(bytes: &[u8]) -> String {
     text
 }
 
-fn printed(due: &[Printed], came: &[[u8; 14]]) -> String {
+fn printed(due: &[Printed], came: &[Record]) -> String {
     let mut text = "letters and image bytes, from the first that differs on:\n".to_string();
     for printed in due.iter().take(SHOWN) {
         let outside = if printed.inside {

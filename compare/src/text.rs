@@ -2,7 +2,8 @@
 //! them the state to begin from, if it is not a start.
 //!
 //! ```text
-//! start DOTS on|off           a start, with or without automatic line feed
+//! start DOTS on|off|NUMBER    a start, with or without automatic line feed, or
+//!                             with this number that says so
 //! state                       from the power-on state of 300 dots,
 //! set FIELD NUMBER            but with this field so
 //! read ALLOWANCE ROOM HEX..   a reading call: allowance, output length, input
@@ -11,7 +12,7 @@
 use crate::calls::Call;
 use crate::fields;
 use crate::hold::Case;
-use ierbulosc::State as Mirror;
+use ierbulosc::{Settings, State as Mirror};
 use std::fmt::Write;
 
 /// The case as text.
@@ -19,7 +20,7 @@ pub fn text(case: &Case) -> String {
     let mut text = String::new();
     if let Some(state) = &case.state {
         text.push_str("state\n");
-        let (_, power_on) = Mirror::start(300, false);
+        let (_, power_on) = Mirror::start(&Settings::default());
         for (name, number, _) in fields::differing(state, &power_on) {
             let _ = writeln!(text, "set {name} {number}");
         }
@@ -33,9 +34,13 @@ pub fn text(case: &Case) -> String {
 
 fn call_text(call: &Call) -> String {
     match call {
-        Call::Start { dots, auto_feed } => {
-            let feed = if *auto_feed { "on" } else { "off" };
-            format!("start {dots} {feed}")
+        Call::Start(settings) => {
+            let feed = match settings.auto_feed {
+                0 => "off".to_string(),
+                1 => "on".to_string(),
+                number => number.to_string(),
+            };
+            format!("start {} {feed}", settings.resolution)
         }
         Call::Read {
             input,
@@ -67,19 +72,19 @@ fn take_line(case: &mut Case, line: &str) -> Option<()> {
     let words: Vec<&str> = line.split_whitespace().collect();
     match *words.as_slice() {
         ["state"] if case.state.is_none() && case.calls.is_empty() => {
-            case.state = Some(Mirror::start(300, false).1);
+            case.state = Some(Mirror::start(&Settings::default()).1);
         }
         ["set", name, number] if case.calls.is_empty() => {
             fields::set(case.state.as_mut()?, name, number.parse().ok()?)?;
         }
-        ["start", dots, feed] => case.calls.push(Call::Start {
-            dots: dots.parse().ok()?,
+        ["start", dots, feed] => case.calls.push(Call::Start(Settings {
+            resolution: dots.parse().ok()?,
             auto_feed: match feed {
-                "on" => true,
-                "off" => false,
-                _ => return None,
+                "on" => 1,
+                "off" => 0,
+                number => number.parse().ok()?,
             },
-        }),
+        })),
         ["read", allowance, room, ref bytes @ ..] => case.calls.push(Call::Read {
             input: bytes.iter().map(|byte| hex(byte)).collect::<Option<_>>()?,
             allowance: allowance.parse().ok()?,

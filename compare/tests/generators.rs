@@ -1,10 +1,12 @@
 //! What the generators reach.
 
-use compare::calls::{calls, run, Call, FILL};
-use compare::generate;
+use compare::calls::{calls, room_for, run, Call, FILL};
+use compare::mirror::plain;
 use compare::random::Random;
 use compare::shrink::shrink;
 use compare::states::{arbitrary, inside, normal, reached};
+use compare::{generate, mirrors};
+use ierbulosc::{Settings, State as Mirror, TabStops, COLUMNS, LINES, RECORD_SIZE};
 use plain_reader::{read, start};
 use std::collections::{BTreeMap, BTreeSet};
 
@@ -18,7 +20,7 @@ fn all_answers_records_and_reasons_occur() {
             answers.insert(outcome.answer);
             let (written, rest) = outcome.out.split_at(outcome.written);
             assert!(rest.iter().all(|&byte| byte == FILL));
-            for record in written.chunks_exact(14) {
+            for record in written.chunks_exact(RECORD_SIZE) {
                 let mark = String::from_utf8_lossy(&record[..2]).into_owned();
                 let key = match mark.as_str() {
                     "NO" => format!("NO {}", record[8]),
@@ -67,7 +69,7 @@ fn any_state_is_read_or_left_alone() {
         let mut state = before.clone();
         let phrases = random.below(12);
         let input = generate::input(&mut random, phrases);
-        let room = random.below(28 * input.len() as u64 + 28) as usize;
+        let room = random.below(room_for(input.len()) as u64) as usize;
         let mut out = vec![FILL; room];
         let report = read(&mut state, &input, usize::MAX, &mut out);
         if before.accepted() {
@@ -94,6 +96,97 @@ fn stops_never_set_occur() {
     assert!(such.count() > 100);
 }
 
+fn accepted(state: &Mirror) -> bool {
+    plain(state).is_some_and(|state| state.accepted())
+}
+
+/// Whether a list of this escape is gathered.
+fn gathers(state: &Mirror, command: u8) -> bool {
+    (state.waiting.kind, state.waiting.command) == (ierbulosc::STOP_LIST, command)
+}
+
+/// A list of stops, if the state has such a one.
+type List = fn(&mut Mirror) -> Option<&mut TabStops>;
+
+const LISTS: [(&str, List, usize); 4] = [
+    ("columns", |state| Some(&mut state.stops.columns), COLUMNS),
+    ("lines", |state| Some(&mut state.stops.lines), LINES),
+    (
+        "gathered columns",
+        |state| gathers(state, b'D').then_some(&mut state.stops.gathered),
+        COLUMNS,
+    ),
+    (
+        "gathered lines",
+        |state| gathers(state, b'B').then_some(&mut state.stops.gathered),
+        LINES,
+    ),
+];
+
+/// Lists with too high a count, by one or by far, and nothing else wrong.
+#[test]
+fn too_many_stops_occur() {
+    let mut random = Random::new(6);
+    let states: Vec<_> = (0..100_000)
+        .map(|_| mirrors::arbitrary(&mut random))
+        .collect();
+    for (name, list, most) in LISTS {
+        let most = most as u32;
+        for counts in [most + 1..=most + 1, 65_536..=u32::MAX] {
+            let such = states.iter().filter(|state| {
+                let mut mended = **state;
+                let list = list(&mut mended).filter(|list| counts.contains(&list.count));
+                list.map(|list| list.count = most).is_some() && accepted(&mended)
+            });
+            let such = such.count();
+            println!("{counts:?} {name}: {such}");
+            assert!(such > 3, "{counts:?} {name}: {such}");
+        }
+    }
+}
+
+/// Columns with one stop above 255, and nothing else wrong.
+#[test]
+fn columns_above_255_occur() {
+    let mut random = Random::new(7);
+    let states = (0..20_000).map(|_| mirrors::arbitrary(&mut random));
+    let such = states.filter(|state| {
+        let mut mended = *state;
+        let mut stops = mended.stops.columns.stops.iter_mut();
+        let high = stops.find(|stop| **stop > 255);
+        high.map(|stop| *stop = 255).is_some() && !accepted(state) && accepted(&mended)
+    });
+    assert!(such.count() > 30);
+}
+
+/// Gathered lists of both kinds, from empty to full, and anything at all in
+/// the gathering place while nothing is gathered.
+#[test]
+fn gathered_lists_of_both_kinds_occur() {
+    let mut random = Random::new(8);
+    let states: Vec<_> = (0..100_000)
+        .map(|_| mirrors::arbitrary(&mut random))
+        .filter(accepted)
+        .collect();
+    let occurs = |what: &str, test: &dyn Fn(&Mirror) -> bool| {
+        let such = states.iter().filter(|state| test(state)).count();
+        println!("{what}: {such}");
+        assert!(such > 30, "{what}: {such}");
+    };
+    for (command, most) in [(b'D', COLUMNS as u32), (b'B', LINES as u32)] {
+        for count in [0, 1, 3, most - 1, most] {
+            occurs(&format!("{count} of {command}"), &|state| {
+                gathers(state, command) && state.stops.gathered.count == count
+            });
+        }
+    }
+    for count in [1, 16, 17, 32, 33, 65_536, u32::MAX] {
+        occurs(&format!("{count} of none"), &|state| {
+            state.waiting.kind != ierbulosc::STOP_LIST && state.stops.gathered.count == count
+        });
+    }
+}
+
 /// Parts that no rule looks at make no difference to what is read.
 #[test]
 fn unseen_parts_make_no_difference() {
@@ -116,7 +209,7 @@ fn shrinking_keeps_what_fails() {
     let passes_page = |list: &[Call]| {
         let outcomes = run(list);
         outcomes.iter().any(|outcome| {
-            let mut records = outcome.out[..outcome.written].chunks_exact(14);
+            let mut records = outcome.out[..outcome.written].chunks_exact(RECORD_SIZE);
             records.any(|record| &record[..2] == b"LN" && record[6] == 1)
         })
     };
@@ -125,10 +218,7 @@ fn shrinking_keeps_what_fails() {
         .find(|list| list.len() > 10 && passes_page(list))
         .unwrap();
     let short = shrink(&list, &passes_page, 5_000);
-    let plain = Call::Start {
-        dots: 300,
-        auto_feed: false,
-    };
+    let plain = Call::Start(Settings::default());
     assert!(passes_page(&short));
     assert_eq!((short.len(), &short[0]), (2, &plain));
     let Call::Read { input, .. } = &short[1] else {

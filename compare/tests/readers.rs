@@ -5,6 +5,7 @@ use compare::hold::{difference, outcomes, Case, Tally};
 use compare::mirrors;
 use compare::random::Random;
 use compare::text;
+use ierbulosc::RECORD_SIZE;
 
 #[test]
 fn no_difference_in_a_small_run() {
@@ -41,10 +42,10 @@ fn text_that_tells_no_case() {
         "state\nset width.depth 1",
         "state\nstate",
         "read 1",
-        "read 1 28 A",
-        "read 1 28 +A",
-        "read -1 28",
-        "read 0 28\nset width.pitch 12",
+        "read 1 99 A",
+        "read 1 99 +A",
+        "read -1 99",
+        "read 0 99\nset width.pitch 12",
     ];
     for line in lines {
         assert!(text::case(line).is_err(), "{line}");
@@ -59,6 +60,7 @@ fn a_case_from_text() {
     assert_eq!(came[0].0.state, case.state);
     let case = text::case("start 203 on\nread 3 99 41 0d 42").unwrap();
     let last = &outcomes(&case)[1].0;
-    assert_eq!((last.answer, last.read, last.written), (0, 3, 42));
+    let came = (last.answer, last.read, last.written);
+    assert_eq!(came, (0, 3, 3 * RECORD_SIZE));
     assert!(matches!(case.calls[1], Call::Read { room: 99, .. }));
 }

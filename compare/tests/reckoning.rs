@@ -2,21 +2,22 @@
 
 use compare::calls::{calls, run, Call};
 use compare::random::Random;
-use compare::reckoning::expected;
+use compare::reckoning::{expected, Record};
 use compare::shrink::shrink;
+use ierbulosc::{Settings, RECORD_SIZE};
 
 const LISTS: u64 = 5_000;
 
 /// The TX and IM records of all calls, joined.
-fn placed(calls: &[Call]) -> (Vec<[u8; 14]>, Vec<usize>) {
+fn placed(calls: &[Call]) -> (Vec<Record>, Vec<usize>) {
     let outcomes = run(calls);
     let reads = outcomes.iter().map(|outcome| outcome.read).collect();
     let mut records = Vec::new();
     for outcome in &outcomes {
         assert_ne!(outcome.answer, 4);
-        let written = outcome.out[..outcome.written].chunks_exact(14);
+        let written = outcome.out[..outcome.written].chunks_exact(RECORD_SIZE);
         let placed = written.filter(|record| matches!(&record[..2], b"TX" | b"IM"));
-        records.extend(placed.map(|record| <[u8; 14]>::try_from(record).unwrap()));
+        records.extend(placed.map(|record| Record::try_from(record).unwrap()));
     }
     (records, reads)
 }
@@ -50,9 +51,11 @@ fn a_refused_start_begins_anew() {
         allowance: 100,
         room: 1_000,
     };
-    let start = |dots| Call::Start {
-        dots,
-        auto_feed: true,
+    let start = |resolution| {
+        Call::Start(Settings {
+            resolution,
+            auto_feed: 1,
+        })
     };
     let list = [start(203), reading(b"AB\x1B"), start(204), reading(b"CD")];
     let (records, reads) = placed(&list);

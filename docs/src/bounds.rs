@@ -1,18 +1,34 @@
 //! The bounds that say what a state of ours is.
 
 use crate::state::{
-    State, Stops, Waiting, LARGEST_LINE, LARGEST_SPACING, LONGEST_PAGE, PAPER_WIDTH, SHORTEST_PAGE,
+    State, Stops, Waiting, LARGEST_LINE, LARGEST_SPACING, LONGEST_PAGE, MOST_HORIZONTAL_STOPS,
+    MOST_VERTICAL_STOPS, PAPER_WIDTH, SHORTEST_PAGE,
 };
 
 const HIGHEST_COLUMN: u32 = 255;
 const LOWEST_PLACE_ON_A_PAGE: u32 = LONGEST_PAGE - 1;
+
+/// How many stops a list may have, and the highest that one may be.
+struct Limits {
+    most: usize,
+    highest: u32,
+}
+
+const HORIZONTAL: Limits = Limits {
+    most: MOST_HORIZONTAL_STOPS,
+    highest: HIGHEST_COLUMN,
+};
+const VERTICAL: Limits = Limits {
+    most: MOST_VERTICAL_STOPS,
+    highest: LOWEST_PLACE_ON_A_PAGE,
+};
 
 impl State {
     /// Whether the state is inside the bounds; total over all values.
     pub fn accepted(&self) -> bool {
         self.places_in_bounds()
             && self.settings_in_bounds()
-            && self.horizontal.in_bounds(HIGHEST_COLUMN)
+            && self.horizontal.in_bounds(&HORIZONTAL)
             && self.vertical_stops_in_bounds()
             && self.waiting_in_bounds()
     }
@@ -41,7 +57,7 @@ impl State {
     /// Vertical stops that were never set are none.
     fn vertical_stops_in_bounds(&self) -> bool {
         let none = self.vertical.count == 0;
-        self.vertical.in_bounds(LOWEST_PLACE_ON_A_PAGE) && (none || !self.vertical_never_set)
+        self.vertical.in_bounds(&VERTICAL) && (none || !self.vertical_never_set)
     }
 
     fn waiting_in_bounds(&self) -> bool {
@@ -53,12 +69,12 @@ impl State {
                 first,
             } => arguments_in_bounds(command, given, first),
             Waiting::HorizontalStops { last } => self
-                .gathered_horizontal
-                .gathered_in_bounds(HIGHEST_COLUMN, u64::from(last)),
-            Waiting::VerticalStops { last } => self.gathered_vertical.gathered_in_bounds(
-                LOWEST_PLACE_ON_A_PAGE,
-                u64::from(last) * u64::from(self.line_amount),
-            ),
+                .gathered
+                .gathered_in_bounds(&HORIZONTAL, u64::from(last)),
+            Waiting::VerticalStops { last } => {
+                let place = u64::from(last) * u64::from(self.line_amount);
+                self.gathered.gathered_in_bounds(&VERTICAL, place)
+            }
             Waiting::Image { units, columns } => {
                 matches!(units, 60 | 30 | 15) && (1..=65_535).contains(&columns)
             }
@@ -66,21 +82,19 @@ impl State {
     }
 }
 
-impl<const N: usize> Stops<N> {
+impl Stops {
     /// Not too many stops, ascending strictly, from 1 to the highest.
-    fn in_bounds(&self, highest: u32) -> bool {
-        self.stops
-            .get(..usize::from(self.count))
-            .is_some_and(|list| {
-                list.iter().all(|stop| (1..=highest).contains(stop))
-                    && list.windows(2).all(|pair| pair[0] < pair[1])
-            })
+    fn in_bounds(&self, limits: &Limits) -> bool {
+        let in_range = |stop: &u32| (1..=limits.highest).contains(stop);
+        self.count <= limits.most
+            && self.list().iter().all(in_range)
+            && self.list().windows(2).all(|pair| pair[0] < pair[1])
     }
 
     /// A list being gathered: its last byte, made a stop, is not below its
     /// last stop.
-    fn gathered_in_bounds(&self, highest: u32, last_byte_as_stop: u64) -> bool {
-        self.in_bounds(highest)
+    fn gathered_in_bounds(&self, limits: &Limits, last_byte_as_stop: u64) -> bool {
+        self.in_bounds(limits)
             && self
                 .list()
                 .last()

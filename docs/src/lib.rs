@@ -12,13 +12,14 @@ mod tests;
 
 pub use state::{State, Stops, Waiting};
 
-use records::Records;
+use records::{Records, RECORD_SIZE};
 
 /// The input is used up, or a start is accepted.
 pub const INPUT_USED: u8 = 0;
 /// The allowance is used and input is left.
 pub const ALLOWANCE_USED: u8 = 1;
-/// Under 28 output bytes are left, with input and allowance left.
+/// Under [`ROOM_FOR_A_BYTE`] output bytes are left, with input and allowance
+/// left.
 pub const OUTPUT_FULL: u8 = 2;
 /// A start with a resolution neither 300 nor 203.
 pub const START_REFUSED: u8 = 3;
@@ -26,7 +27,7 @@ pub const START_REFUSED: u8 = 3;
 pub const STATE_REFUSED: u8 = 4;
 
 /// The room that one byte may need: an automatic line and its letter.
-const ROOM_FOR_A_BYTE: usize = 2 * records::LENGTH;
+pub const ROOM_FOR_A_BYTE: usize = 2 * RECORD_SIZE;
 
 /// What a reading call answers: its number, bytes read and bytes written.
 #[derive(Clone, Copy, PartialEq, Eq, Debug)]

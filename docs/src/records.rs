@@ -1,7 +1,7 @@
-//! The records: 14 bytes each, low byte first.
+//! The records: of one size, low byte first.
 
-/// The length of a record.
-pub const LENGTH: usize = 14;
+/// The bytes of a record.
+pub const RECORD_SIZE: usize = 14;
 
 /// An LN's byte for a new top, where others have the pages turned.
 pub const NEW_TOP: u8 = 255;
@@ -30,7 +30,7 @@ pub struct Record {
 }
 
 impl Record {
-    fn bytes(&self) -> [u8; LENGTH] {
+    fn bytes(&self) -> [u8; RECORD_SIZE] {
         let [column, column_high] = self.column.to_le_bytes();
         let [row, row_high] = self.row.to_le_bytes();
         let [style, style_high] = self.style.to_le_bytes();
@@ -75,7 +75,7 @@ impl<'a> Records<'a> {
 
     /// Writes one record; the caller has seen to the room.
     pub fn put(&mut self, record: &Record) {
-        let end = self.written + LENGTH;
+        let end = self.written + RECORD_SIZE;
         self.out[self.written..end].copy_from_slice(&record.bytes());
         self.written = end;
     }

@@ -10,31 +10,31 @@ pub(crate) const LARGEST_SPACING: u8 = 127;
 const POWER_ON_PAGE: u32 = 39_600;
 const POWER_ON_LINE: u32 = 600;
 
+/// The most horizontal stops, and so the slots of a list of either kind.
+pub(crate) const MOST_HORIZONTAL_STOPS: usize = 32;
+pub(crate) const MOST_VERTICAL_STOPS: usize = 16;
+
 /// A list of tab stops and how many of its slots count.
 #[derive(Clone, PartialEq, Eq, Debug)]
-pub struct Stops<const N: usize> {
-    pub stops: [u32; N],
-    pub count: u8,
+pub struct Stops {
+    pub stops: [u32; MOST_HORIZONTAL_STOPS],
+    pub count: usize,
 }
 
-impl<const N: usize> Stops<N> {
-    pub(crate) const EMPTY: Self = Stops {
-        stops: [0; N],
+impl Stops {
+    pub const EMPTY: Stops = Stops {
+        stops: [0; MOST_HORIZONTAL_STOPS],
         count: 0,
     };
 
     /// The stops that count.
     pub(crate) fn list(&self) -> &[u32] {
-        &self.stops[..usize::from(self.count)]
+        &self.stops[..self.count]
     }
 
-    pub(crate) fn is_full(&self) -> bool {
-        usize::from(self.count) >= N
-    }
-
-    /// Adds a stop to a list that is not full.
+    /// Adds a stop to a list that has room for it.
     pub(crate) fn add(&mut self, stop: u32) {
-        self.stops[usize::from(self.count)] = stop;
+        self.stops[self.count] = stop;
         self.count += 1;
     }
 }
@@ -110,14 +110,13 @@ pub struct State {
     /// ESC 6: 80h to 9Fh print; after ESC 7 they are control bytes.
     pub upper_codes_print: bool,
     /// Horizontal stops in force, in columns.
-    pub horizontal: Stops<32>,
+    pub horizontal: Stops,
     /// Vertical stops in force, in units from the page's top.
-    pub vertical: Stops<16>,
+    pub vertical: Stops,
     pub vertical_never_set: bool,
-    /// The list that ESC D is gathering.
-    pub gathered_horizontal: Stops<32>,
-    /// The list that ESC B is gathering.
-    pub gathered_vertical: Stops<16>,
+    /// The list that ESC D or ESC B is gathering, of no meaning while none is
+    /// waited for.
+    pub gathered: Stops,
     pub waiting: Waiting,
 }
 
@@ -157,8 +156,7 @@ impl State {
             horizontal: every_eight_columns(),
             vertical: Stops::EMPTY,
             vertical_never_set: true,
-            gathered_horizontal: Stops::EMPTY,
-            gathered_vertical: Stops::EMPTY,
+            gathered: Stops::EMPTY,
             waiting: Waiting::Nothing,
         }
     }
@@ -228,7 +226,7 @@ impl State {
 }
 
 /// The horizontal stops of power-on: columns 8, 16 .. 72.
-fn every_eight_columns() -> Stops<32> {
+fn every_eight_columns() -> Stops {
     let mut stops = Stops::EMPTY;
     for column in (8..=72).step_by(8) {
         stops.add(column);

@@ -5,7 +5,8 @@ mod bounds;
 mod hand_checked;
 mod open_points;
 
-use crate::{read, start, State};
+use crate::records::RECORD_SIZE;
+use crate::{read, start, State, ROOM_FOR_A_BYTE};
 
 /// A record taken apart.
 #[derive(Clone, Copy, PartialEq, Eq, Debug)]
@@ -91,10 +92,11 @@ fn apart(record: &[u8]) -> Seen {
 
 /// Reads all of the input with room enough.
 fn read_all(state: &mut State, input: &[u8]) -> Vec<Seen> {
-    let mut out = vec![0; 28 * (input.len() + 1)];
+    let mut out = vec![0; ROOM_FOR_A_BYTE * (input.len() + 1)];
     let report = read(state, input, input.len(), &mut out);
     assert_eq!((report.answer, report.read), (0, input.len()));
-    out[..report.written].chunks(14).map(apart).collect()
+    let records = out[..report.written].chunks(RECORD_SIZE);
+    records.map(apart).collect()
 }
 
 fn at_300(input: &[u8]) -> Vec<Seen> {

@@ -1,7 +1,7 @@
 //! Reads a slot card in pieces of five bytes and prints where RELEASED stands,
 //! and under which slot, for 300 dots and for 203.
 
-use ierbulosc::{State, INPUT_USED, RECORD_SIZE, ROOM};
+use ierbulosc::{Settings, State, INPUT_USED, RECORD_SIZE, ROOM};
 use std::process::ExitCode;
 
 const CARD: &[u8] = b"\x1BD\x0A\x14\x1E\x28\x32\x3C\x46\x00\
@@ -30,8 +30,11 @@ fn main() -> ExitCode {
 }
 
 /// The letters that are placed, at so many dots to the inch.
-fn letters(dots: u32) -> Option<Vec<Letter>> {
-    let (answer, mut state) = State::start(dots, false);
+fn letters(resolution: u32) -> Option<Vec<Letter>> {
+    let (answer, mut state) = State::start(&Settings {
+        resolution,
+        ..Settings::default()
+    });
     if answer != INPUT_USED {
         return None;
     }

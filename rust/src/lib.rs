@@ -1,18 +1,22 @@
-//! Reads the ESC/P legacy page language: bytes come in, placed records of 14
-//! bytes come out.
+//! Reads the ESC/P legacy page language: bytes come in, placed records come
+//! out.
 //!
 //! This is a safe cover over the static library libierbulosc.a, whose C
 //! interface is include/escp.h. The library keeps nothing between calls,
 //! allocates nothing and always returns; all it knows is in [`State`].
 //!
 //! ```
-//! let (answer, mut state) = ierbulosc::State::start(300, false);
-//! assert_eq!(answer, ierbulosc::INPUT_USED);
-//! let mut out = [0; 56];
+//! use ierbulosc::{Settings, State, INPUT_USED, RECORD_SIZE, ROOM};
+//!
+//! let (answer, mut state) = State::start(&Settings::default());
+//! assert_eq!(answer, INPUT_USED);
+//! let mut out = [0; 2 * ROOM];
 //! let report = state.read(b"A\n", usize::MAX, &mut out);
-//! assert_eq!((report.answer, report.read, report.written), (0, 2, 28));
-//! assert_eq!(&out[..2], b"TX");
-//! assert_eq!(&out[14..16], b"LN");
+//! assert_eq!((report.answer, report.read), (INPUT_USED, 2));
+//! let mut records = out[..report.written].chunks_exact(RECORD_SIZE);
+//! assert!(records.next().is_some_and(|record| record.starts_with(b"TX")));
+//! assert!(records.next().is_some_and(|record| record.starts_with(b"LN")));
+//! assert_eq!(records.next(), None);
 //! ```
 
 mod state;
@@ -25,7 +29,7 @@ pub const INPUT_USED: u8 = 0;
 pub const ALLOWANCE_USED: u8 = 1;
 /// Under [`ROOM`] bytes of output are left, and input and allowance are left.
 pub const OUTPUT_FULL: u8 = 2;
-/// A start with neither 300 nor 203 dots.
+/// A start whose resolution is neither 300 nor 203.
 pub const SETTINGS_REFUSED: u8 = 3;
 /// The state is none that the library leaves.
 pub const STATE_REFUSED: u8 = 4;
@@ -53,7 +57,7 @@ pub const STATE_REFUSED: u8 = 4;
 pub const RECORD_SIZE: usize = 14;
 /// The room that must be left in the output for a byte to be read: it writes
 /// at most two records.
-pub const ROOM: usize = 28;
+pub const ROOM: usize = 2 * RECORD_SIZE;
 
 /// What a reading call came back with.
 #[derive(Clone, Copy, PartialEq, Eq, Debug)]
@@ -76,7 +80,7 @@ struct Counts {
 }
 
 extern "C" {
-    fn escp_start(state: *mut State, dots: u32, auto_feed: bool) -> u8;
+    fn escp_start(state: *mut State, settings: *const Settings) -> u8;
 
     fn escp_read(
         state: *mut State,
@@ -90,19 +94,19 @@ extern "C" {
 }
 
 impl State {
-    /// Starts a printer of so many dots to the inch: 300, or 203 (203 across
-    /// and 200 down). `auto_feed` has CR feed a line.
+    /// Starts a printer with these settings.
     ///
     /// The answer and the state with it:
     /// - [`INPUT_USED`]: the power-on state of these settings;
-    /// - [`SETTINGS_REFUSED`]: `dots` is neither 300 nor 203; the power-on
-    ///   state for 300 dots, without automatic line feed.
-    pub fn start(dots: u32, auto_feed: bool) -> (u8, State) {
+    /// - [`SETTINGS_REFUSED`]: the resolution is neither 300 nor 203; the
+    ///   power-on state of [`Settings::default`].
+    pub fn start(settings: &Settings) -> (u8, State) {
         let mut state = State::ZERO;
-        // SAFETY: the pointer is to a whole State, which no one else holds
-        // during the call. Its fields are plain numbers, so that whatever the
-        // library writes there is a State again. The library keeps no pointer.
-        let answer = unsafe { escp_start(&mut state, dots, auto_feed) };
+        // SAFETY: the pointers are to whole structs, the state's to one that
+        // no one else holds during the call. Its fields are plain numbers, so
+        // that whatever the library writes there is a State again. The library
+        // only reads the settings and keeps no pointer.
+        let answer = unsafe { escp_start(&mut state, settings) };
         (answer, state)
     }
 

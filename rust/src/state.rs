@@ -1,5 +1,8 @@
-//! The state of the printer, field by field as in the C interface.
+//! The settings of a start and the state of the printer, field by field as in
+//! the C interface.
 
+/// The room of a list of tab stops.
+pub const TAB_STOPS: usize = 32;
 /// The most horizontal tab stops.
 pub const COLUMNS: usize = 32;
 /// The most vertical tab stops.
@@ -9,20 +12,24 @@ pub const LINES: usize = 16;
 pub const NOTHING: u8 = 0;
 /// [`Waiting::kind`]: an escape's second byte.
 pub const SECOND_BYTE: u8 = 1;
-/// [`Waiting::kind`]: the argument of an escape that has one.
-pub const ARGUMENT: u8 = 2;
-/// [`Waiting::kind`]: the argument of ESC C.
-pub const PAGE_LENGTH: u8 = 3;
-/// [`Waiting::kind`]: the argument of ESC C 0.
-pub const PAGE_INCHES: u8 = 4;
-/// [`Waiting::kind`]: the first of two arguments.
-pub const FIRST_ARGUMENT: u8 = 5;
-/// [`Waiting::kind`]: the second of two arguments.
-pub const SECOND_ARGUMENT: u8 = 6;
+/// [`Waiting::kind`]: the first argument of an escape, or its only one.
+pub const FIRST_ARGUMENT: u8 = 2;
+/// [`Waiting::kind`]: the second argument; that of ESC C after 0.
+pub const SECOND_ARGUMENT: u8 = 3;
 /// [`Waiting::kind`]: a byte of a tab stop list.
-pub const STOP_LIST: u8 = 7;
+pub const STOP_LIST: u8 = 4;
 /// [`Waiting::kind`]: image data.
-pub const IMAGE_DATA: u8 = 8;
+pub const IMAGE_DATA: u8 = 5;
+
+/// What a start is asked for.
+#[repr(C)]
+#[derive(Clone, Copy, PartialEq, Eq, Debug)]
+pub struct Settings {
+    /// Dots to the inch: 300, or 203 (203 across and 200 down).
+    pub resolution: u32,
+    /// Any number but 0: CR feeds a line.
+    pub auto_feed: u32,
+}
 
 /// The settings of the start, the print quality, and the upper codes.
 #[repr(C)]
@@ -111,37 +118,35 @@ pub struct Place {
     pub down: u32,
 }
 
-/// Horizontal tab stops, as columns. The first `count` are held, ascending.
+/// A list of tab stops, of which the first `count` are held, ascending
+/// strictly; stops past `count` are not looked at.
+///
+/// Horizontal ones are columns, from 1 to 255, and at most [`COLUMNS`].
+/// Vertical ones are distances from the top, from 1 to 79,199, and at most
+/// [`LINES`].
 #[repr(C)]
 #[derive(Clone, Copy, PartialEq, Eq, Debug)]
-pub struct Columns {
-    pub stops: [u8; COLUMNS],
-    pub count: usize,
-}
-
-/// Vertical tab stops, as distances from the top. The first `count` are held,
-/// ascending.
-#[repr(C)]
-#[derive(Clone, Copy, PartialEq, Eq, Debug)]
-pub struct Lines {
-    pub stops: [u32; LINES],
-    pub count: usize,
+pub struct TabStops {
+    pub stops: [u32; TAB_STOPS],
+    pub count: u32,
 }
 
 /// The tab stops in force, and those of a list that has not ended.
 #[repr(C)]
 #[derive(Clone, Copy, PartialEq, Eq, Debug)]
 pub struct Stops {
-    /// In force.
-    pub columns: Columns,
-    /// In force.
-    pub lines: Lines,
-    /// Flag: vertical stops were set, though perhaps to none.
+    /// Horizontal, in force.
+    pub columns: TabStops,
+    /// Vertical, in force.
+    pub lines: TabStops,
+    /// Flag: vertical stops were set, though perhaps to none; 0: there are
+    /// none.
     pub line_set: u8,
-    /// Of an ESC D list that has not ended.
-    pub gathered_columns: Columns,
-    /// Of an ESC B list that has not ended.
-    pub gathered_lines: Lines,
+    /// Of a list that has not ended: horizontal of ESC D, or vertical of ESC B.
+    /// It is looked at only while such a list is waited for; the last stop is
+    /// then not above the list byte before, or for ESC B that byte times the
+    /// line amount.
+    pub gathered: TabStops,
 }
 
 /// What is waited for. Fields that a kind does not use are 0.
@@ -150,13 +155,13 @@ pub struct Stops {
 pub struct Waiting {
     /// [`NOTHING`] to [`IMAGE_DATA`].
     pub kind: u8,
-    /// Kinds 2, 5, 6, 7, 8: the escape's second byte, as 41h for ESC A, 44h
-    /// for ESC D, 4Bh for ESC K.
+    /// Kinds 2 to 5: the escape's second byte, as 41h for ESC A, 44h for ESC D,
+    /// 4Bh for ESC K.
     pub command: u8,
-    /// Kind 6: the first argument; kind 7: the list byte before, 0 at the
+    /// Kind 3: the first argument; kind 4: the list byte before, 0 at the
     /// beginning.
     pub argument: u8,
-    /// Kind 8: the image columns left, 1 to 65,535.
+    /// Kind 5: the image columns left, 1 to 65,535.
     pub columns: u16,
 }
 
@@ -180,18 +185,20 @@ pub struct State {
     pub waiting: Waiting,
 }
 
-impl Columns {
-    /// No stops, and 0 in every slot.
-    pub const NONE: Columns = Columns {
-        stops: [0; COLUMNS],
-        count: 0,
-    };
+impl Default for Settings {
+    /// 300 dots, automatic line feed off.
+    fn default() -> Settings {
+        Settings {
+            resolution: 300,
+            auto_feed: 0,
+        }
+    }
 }
 
-impl Lines {
+impl TabStops {
     /// No stops, and 0 in every slot.
-    pub const NONE: Lines = Lines {
-        stops: [0; LINES],
+    pub const NONE: TabStops = TabStops {
+        stops: [0; TAB_STOPS],
         count: 0,
     };
 }
@@ -238,11 +245,10 @@ impl State {
         },
         place: Place { across: 0, down: 0 },
         stops: Stops {
-            columns: Columns::NONE,
-            lines: Lines::NONE,
+            columns: TabStops::NONE,
+            lines: TabStops::NONE,
             line_set: 0,
-            gathered_columns: Columns::NONE,
-            gathered_lines: Lines::NONE,
+            gathered: TabStops::NONE,
         },
         waiting: Waiting {
             kind: NOTHING,

@@ -14,22 +14,23 @@ fn rust_type(c: &str) -> String {
         "uint32_t" => "u32".to_string(),
         "size_t" => "usize".to_string(),
         _ => {
-            let name = c.strip_prefix("escp_").unwrap();
-            name[..1].to_uppercase() + &name[1..]
+            let words = c.strip_prefix("escp_").unwrap().split('_');
+            let capital = |word: &str| word[..1].to_uppercase() + &word[1..];
+            words.map(capital).collect()
         }
     }
 }
 
-/// A field of a C struct, such as `uint8_t stops[ESCP_COLUMNS];`.
+/// A field of a C struct, such as `uint32_t stops[ESCP_TAB_STOPS];`.
 fn c_field(line: &str) -> (String, String) {
     let (declared, _) = line.trim().split_once(';').unwrap();
     let (kind, name) = declared.split_once(' ').unwrap();
     let kind = rust_type(kind);
     match name.split_once("[ESCP_") {
         None => (name.to_string(), kind),
-        Some((name, most)) => {
-            let most = most.trim_end_matches(']');
-            (name.to_string(), format!("[{kind}; {most}]"))
+        Some((name, room)) => {
+            let room = room.trim_end_matches(']');
+            (name.to_string(), format!("[{kind}; {room}]"))
         }
     }
 }
@@ -69,9 +70,23 @@ fn structs_are_those_of_the_header() {
     assert_eq!(STRUCTS.matches("#[repr(C)]").count(), 11);
 }
 
+/// The number of a constant, whose line is such as `    ESCP_ROOM = 2 * ESCP_RECORD_SIZE,`.
+fn c_constant(name: &str) -> usize {
+    let begin = format!("    ESCP_{name} = ");
+    let mut lines = HEADER.lines().filter_map(|line| line.strip_prefix(&begin));
+    let line = lines.next().unwrap_or_else(|| panic!("no constant {name}"));
+    assert_eq!(lines.next(), None, "{name}");
+    let value = line.split([',', '/']).next().unwrap_or_default();
+    let factor = |word: &str| match word.trim().strip_prefix("ESCP_") {
+        Some(name) => c_constant(name),
+        None => word.trim().parse().unwrap(),
+    };
+    value.split('*').map(factor).product()
+}
+
 #[test]
 fn constants_are_those_of_the_header() {
-    let constants: [(&str, usize); 18] = [
+    let constants: [(&str, usize); 16] = [
         ("INPUT_USED", ierbulosc::INPUT_USED.into()),
         ("ALLOWANCE_USED", ierbulosc::ALLOWANCE_USED.into()),
         ("OUTPUT_FULL", ierbulosc::OUTPUT_FULL.into()),
@@ -79,25 +94,18 @@ fn constants_are_those_of_the_header() {
         ("STATE_REFUSED", ierbulosc::STATE_REFUSED.into()),
         ("RECORD_SIZE", ierbulosc::RECORD_SIZE),
         ("ROOM", ierbulosc::ROOM),
+        ("TAB_STOPS", ierbulosc::TAB_STOPS),
         ("COLUMNS", ierbulosc::COLUMNS),
         ("LINES", ierbulosc::LINES),
         ("NOTHING", ierbulosc::NOTHING.into()),
         ("SECOND_BYTE", ierbulosc::SECOND_BYTE.into()),
-        ("ARGUMENT", ierbulosc::ARGUMENT.into()),
-        ("PAGE_LENGTH", ierbulosc::PAGE_LENGTH.into()),
-        ("PAGE_INCHES", ierbulosc::PAGE_INCHES.into()),
         ("FIRST_ARGUMENT", ierbulosc::FIRST_ARGUMENT.into()),
         ("SECOND_ARGUMENT", ierbulosc::SECOND_ARGUMENT.into()),
         ("STOP_LIST", ierbulosc::STOP_LIST.into()),
         ("IMAGE_DATA", ierbulosc::IMAGE_DATA.into()),
     ];
     for (name, number) in constants {
-        let line = format!("    ESCP_{name} = {number}");
-        let found = HEADER.lines().filter(|found| {
-            let rest = found.strip_prefix(&line);
-            rest.is_some_and(|rest| !rest.starts_with(|c: char| c.is_ascii_digit()))
-        });
-        assert_eq!(found.count(), 1, "{name}");
+        assert_eq!(c_constant(name), number, "{name}");
     }
     assert_eq!(HEADER.matches("    ESCP_").count(), constants.len());
 }

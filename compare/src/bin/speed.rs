@@ -1,7 +1,7 @@
 //! Measures the proved reader and the plain one side by side on equal inputs.
 
 use compare::inputs::{input, NAMES};
-use ierbulosc::State as Mirror;
+use ierbulosc::{Settings, State as Mirror};
 use std::hint::black_box;
 use std::process::ExitCode;
 use std::time::{Duration, Instant};
@@ -96,7 +96,7 @@ fn read_plain(input: &[u8], out: &mut [u8], mut records: impl FnMut(&[u8])) {
 }
 
 fn read_proved(input: &[u8], out: &mut [u8], mut records: impl FnMut(&[u8])) {
-    let (_, mut state) = Mirror::start(300, false);
+    let (_, mut state) = Mirror::start(&Settings::default());
     for piece in input.chunks(PIECE) {
         let report = state.read(piece, usize::MAX, out);
         records(&out[..report.written]);

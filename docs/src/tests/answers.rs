@@ -3,11 +3,12 @@
 use super::*;
 use crate::Report;
 
-fn report(answer: u8, read: usize, written: usize) -> Report {
+/// A report of so many records.
+fn report(answer: u8, read: usize, records: usize) -> Report {
     Report {
         answer,
         read,
-        written,
+        written: records * RECORD_SIZE,
     }
 }
 
@@ -37,24 +38,24 @@ fn starts() {
 #[test]
 fn input_used_up_comes_first() {
     assert_eq!(call(b"", 0, 0), report(0, 0, 0));
-    assert_eq!(call(b"AB", 2, 41), report(2, 1, 14));
-    assert_eq!(call(b"AB", 2, 42), report(0, 2, 28));
-    assert_eq!(call(b"A", 1, 28), report(0, 1, 14));
+    assert_eq!(call(b"AB", 2, 3 * RECORD_SIZE - 1), report(2, 1, 1));
+    assert_eq!(call(b"AB", 2, 3 * RECORD_SIZE), report(0, 2, 2));
+    assert_eq!(call(b"A", 1, ROOM_FOR_A_BYTE), report(0, 1, 1));
 }
 
 #[test]
 fn allowance_comes_before_room() {
     assert_eq!(call(b"A", 0, 0), report(1, 0, 0));
-    assert_eq!(call(b"AB", 1, 28), report(1, 1, 14));
-    assert_eq!(call(b"AB", 1, 1000), report(1, 1, 14));
+    assert_eq!(call(b"AB", 1, ROOM_FOR_A_BYTE), report(1, 1, 1));
+    assert_eq!(call(b"AB", 1, 1000), report(1, 1, 1));
 }
 
 #[test]
 fn room_for_two_records_is_asked_before_each_byte() {
-    assert_eq!(call(b"A", 1, 27), report(2, 0, 0));
-    assert_eq!(call(b"\x1B", 1, 27), report(2, 0, 0));
-    assert_eq!(call(b"\x1BE", 9, 28), report(0, 2, 0));
-    assert_eq!(call(b"ABC", 9, 42), report(2, 2, 28));
+    assert_eq!(call(b"A", 1, ROOM_FOR_A_BYTE - 1), report(2, 0, 0));
+    assert_eq!(call(b"\x1B", 1, ROOM_FOR_A_BYTE - 1), report(2, 0, 0));
+    assert_eq!(call(b"\x1BE", 9, ROOM_FOR_A_BYTE), report(0, 2, 0));
+    assert_eq!(call(b"ABC", 9, 3 * RECORD_SIZE), report(2, 2, 2));
 }
 
 #[test]
@@ -64,10 +65,10 @@ fn a_refused_state_comes_before_all_else() {
     let before = state.clone();
     for input in [&b""[..], b"A"] {
         for allowance in [0, 1] {
-            let mut out = [0xEE; 28];
+            let mut out = [0xEE; ROOM_FOR_A_BYTE];
             let answer = read(&mut state, input, allowance, &mut out);
             assert_eq!(answer, report(4, 0, 0));
-            assert_eq!(out, [0xEE; 28]);
+            assert_eq!(out, [0xEE; ROOM_FOR_A_BYTE]);
             assert_eq!(state, before);
         }
     }

@@ -1,7 +1,8 @@
 //! The bounds of a state, field by field.
 
 use super::*;
-use crate::Waiting;
+use crate::state::MOST_HORIZONTAL_STOPS;
+use crate::{Stops, Waiting};
 
 /// Whether the power-on state is accepted after this change.
 fn accepts(change: impl Fn(&mut State)) -> bool {
@@ -12,6 +13,13 @@ fn accepts(change: impl Fn(&mut State)) -> bool {
     assert_eq!(state, expected);
     assert_eq!(report.answer == 0, state.accepted());
     state.accepted()
+}
+
+/// The stops 1, 2 .. so many.
+fn ascending(count: u32) -> Stops {
+    let mut stops = Stops::EMPTY;
+    (1..=count).for_each(|stop| stops.add(stop));
+    stops
 }
 
 #[test]
@@ -52,11 +60,13 @@ fn places() {
 #[test]
 fn stops_in_force() {
     assert!(!accepts(|s| s.horizontal.count = 10));
-    assert!(!accepts(|s| s.horizontal.count = 255));
+    assert!(!accepts(|s| s.horizontal.count = 33));
+    assert!(!accepts(|s| s.horizontal.count = usize::MAX));
     assert!(!accepts(|s| s.horizontal.stops[8] = 64));
     assert!(accepts(|s| s.horizontal.stops[8] = 255));
     assert!(!accepts(|s| s.horizontal.stops[8] = 256));
     assert!(accepts(|s| s.horizontal.stops[9] = 1));
+    assert!(accepts(|s| s.horizontal = ascending(32)));
     let vertical = |count, stop| {
         accepts(|s| {
             s.vertical_never_set = false;
@@ -68,7 +78,14 @@ fn stops_in_force() {
     assert!(!vertical(1, 0));
     assert!(vertical(1, 79_199));
     assert!(!vertical(1, 79_200));
-    assert!(!vertical(17, 1));
+    assert!(!vertical(usize::MAX, 1));
+    let many = |count| {
+        accepts(|s| {
+            s.vertical_never_set = false;
+            s.vertical = ascending(count);
+        })
+    };
+    assert!(many(16) && !many(17) && !many(32));
 }
 
 #[test]
@@ -93,8 +110,8 @@ fn lists_being_gathered() {
     let horizontal = |last, count, stop| {
         accepts(|s| {
             s.waiting = Waiting::HorizontalStops { last };
-            s.gathered_horizontal.count = count;
-            s.gathered_horizontal.stops[0] = stop;
+            s.gathered.count = count;
+            s.gathered.stops[0] = stop;
         })
     };
     assert!(horizontal(255, 0, 0));
@@ -105,16 +122,72 @@ fn lists_being_gathered() {
     let vertical = |last, count, stop| {
         accepts(|s| {
             s.waiting = Waiting::VerticalStops { last };
-            s.gathered_vertical.count = count;
-            s.gathered_vertical.stops[0] = stop;
+            s.gathered.count = count;
+            s.gathered.stops[0] = stop;
         })
     };
     assert!(vertical(0, 0, 0));
     assert!(vertical(2, 1, 1_200));
     assert!(!vertical(2, 1, 1_201));
-    assert!(!vertical(2, 17, 1));
-    assert!(accepts(|s| s.gathered_vertical.count = 200));
-    assert!(accepts(|s| s.gathered_horizontal.count = 200));
+    assert!(!vertical(2, 33, 1));
+}
+
+#[test]
+fn a_list_being_gathered_has_the_limits_of_its_kind() {
+    let gathering = |waiting, count| {
+        accepts(|s| {
+            s.waiting = waiting;
+            s.gathered = ascending(count);
+        })
+    };
+    let horizontal = Waiting::HorizontalStops { last: 255 };
+    let vertical = Waiting::VerticalStops { last: 255 };
+    for count in [0, 1, 16] {
+        assert!(gathering(horizontal, count) && gathering(vertical, count));
+    }
+    for count in [17, 32] {
+        assert!(gathering(horizontal, count) && !gathering(vertical, count));
+    }
+    let one = |waiting, stop| {
+        accepts(|s| {
+            s.waiting = waiting;
+            s.gathered.count = 1;
+            s.gathered.stops[0] = stop;
+        })
+    };
+    assert!(one(horizontal, 255) && one(vertical, 255));
+    assert!(!one(horizontal, 256) && one(vertical, 256));
+    assert!(one(vertical, 79_199) && !one(vertical, 79_200));
+}
+
+#[test]
+fn the_gathering_place_is_free_while_no_list_is_gathered() {
+    for waiting in [Waiting::Nothing, Waiting::SecondByte] {
+        for count in [0, 33, usize::MAX] {
+            let any = Stops {
+                stops: [u32::MAX; MOST_HORIZONTAL_STOPS],
+                count,
+            };
+            assert!(accepts(|s| {
+                s.waiting = waiting;
+                s.gathered = any.clone();
+            }));
+        }
+    }
+}
+
+#[test]
+fn a_list_begins_empty_and_leaves_the_gathering_place_empty() {
+    let (_, mut state) = start(300, false);
+    state.gathered = ascending(9);
+    read_all(&mut state, b"\x1BD\x05");
+    assert_eq!(state.gathered.list(), [5]);
+    read_all(&mut state, b"\x00\x1BB\x02");
+    assert_eq!(state.gathered.list(), [1_200]);
+    read_all(&mut state, b"\x00");
+    assert_eq!(state.horizontal.list(), [5]);
+    assert_eq!(state.vertical.list(), [1_200]);
+    assert_eq!(state.gathered, Stops::EMPTY);
 }
 
 #[test]
@@ -161,8 +234,8 @@ fn the_greatest_values_of_every_field() {
     state.page_length = u32::MAX;
     state.across = u32::MAX;
     state.right = u32::MAX;
-    state.gathered_vertical.count = 1;
-    state.gathered_vertical.stops = [u32::MAX; 16];
+    state.gathered.count = 1;
+    state.gathered.stops = [u32::MAX; MOST_HORIZONTAL_STOPS];
     state.waiting = Waiting::VerticalStops { last: 255 };
     assert!(!state.accepted());
 }

@@ -5,13 +5,14 @@ use super::*;
 #[test]
 fn case_1_records_byte_for_byte() {
     let (_, mut state) = start(300, false);
-    let mut out = [0xEE; 60];
+    let mut out = [0xEE; 2 * ROOM_FOR_A_BYTE];
     let report = read(&mut state, b"\x41\x0A", 9, &mut out);
-    assert_eq!((report.answer, report.read, report.written), (0, 2, 28));
-    let hex: String = out[..28].iter().map(|byte| format!("{byte:02x}")).collect();
+    assert_eq!((report.answer, report.read), (0, 2));
+    let (written, rest) = out.split_at(report.written);
+    let hex: String = written.iter().map(|byte| format!("{byte:02x}")).collect();
     let expected = "54580000000041000000000068014c4e000032000000000000000000";
     assert_eq!(hex, expected);
-    assert!(out[28..].iter().all(|&byte| byte == 0xEE));
+    assert!(rest.iter().all(|&byte| byte == 0xEE));
 }
 
 #[test]
