@@ -43,7 +43,7 @@ pub(crate) fn first_of(b: u8) -> First
 }
 
 // What an escape's second byte is. The table is in three functions for its length: first the escapes without an argument.
-pub(crate) fn second_of(b: u8) -> Second
+pub fn second_of(b: u8) -> Second
     ensures { λ r. ⌜ r ≡ secondOf b ⌝ }
 {
     match b {

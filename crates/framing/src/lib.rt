@@ -18,7 +18,7 @@ use printer::commands::Two;
 use printer::commands::Waiting;
 ghost use mathlib.Core.Path.{_≡_};
 ghost use mathlib.Core.Bool.{Bool};
-ghost use Rattle.printer.specs.Framing.{isLetter, readAs, oneCommand, twoCommand, imageWait, afterTwo, firstFrame, secondFrame, continued, listFrame, frame};
+ghost use Rattle.printer.specs.Framing.{isLetter, readAs, firstOf, oneCommand, twoCommand, imageWait, afterTwo, firstFrame, secondFrame, continued, listFrame, frame};
 
 // Whether a byte prints: 20h to 7Eh, A0h to FFh, and 80h to 9Fh after ESC 6.
 pub fn is_letter(upper: bool, b: u8) -> bool
@@ -41,6 +41,13 @@ fn read_as(upper: bool, b: u8) -> u8
         return b;
     }
     b - 0x80
+}
+
+// What a byte is that is no letter, between commands.
+pub fn first(upper: bool, b: u8) -> First
+    ensures { λ r. ⌜ r ≡ firstOf (readAs upper b) ⌝ }
+{
+    codes::first_of(read_as(upper, b))
 }
 
 // A command with its one argument.

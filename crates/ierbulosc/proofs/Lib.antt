@@ -1,4 +1,1 @@
-pub mod Flags
-pub mod RoundTrip
-pub mod StateValue
 pub mod Theorems

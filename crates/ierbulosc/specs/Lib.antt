@@ -1,5 +1,2 @@
-pub mod Numbers
-pub mod Waits
-pub mod Packing
-pub mod Unpacking
 pub mod Calls
+pub mod Lists

@@ -1,81 +1,18 @@
-// The reader for C and Rust to link: the state as plain numbers, lent and updated.
-mod numbers;
-pub mod pack;
-pub mod state;
-pub mod unpack;
-mod waits;
-
-use crate::state::Counts;
-use crate::state::State;
-use printer::answers::Answer;
-use printer::answers::Reading;
-use printer::answers::Started;
+// The reader for C and Rust to link: its calls, on registers that the caller holds.
 use printer::settings::StartSettings;
+use registers::COUNT;
 ghost use mathlib.Core.Path.{_≡_};
-ghost use Rattle.ierbulosc.specs.Calls.{settingsOf, packStarted, packReading, refused, stateStartOf, StatePromise, EscpReadPromise, EscpStartPromise};
+ghost use Rattle.ierbulosc.specs.Calls.{settingsIn, EscpStartPromise, EscpReadPromise};
 
 // How many numbers a start's settings are: the fields of `escp_settings`, in their order.
 pub const SETTINGS: usize = 2;
 
-// What a start gives back: the answer's number and the state.
-pub struct StateStarted {
-    pub answer: u8,
-    pub state: State,
-}
+// How many numbers a reading call counts: the bytes read, and the bytes written.
+pub const COUNTS: usize = 2;
 
-// What a reading gives back: the answer's number, the counts and the state.
-pub struct StateReading {
-    pub answer: u8,
-    pub counts: Counts,
-    pub state: State,
-}
-
-// A start's result with the state as numbers.
-fn pack_started(r: Started) -> StateStarted
-    ensures { λ n. ⌜ n ≡ packStarted r ⌝ }
-{
-    let answer = r.answer;
-    let printer = r.printer;
-    StateStarted {
-        answer: answer.number(),
-        state: pack::pack(printer),
-    }
-}
-
-// A reading's result with the state as numbers.
-fn pack_reading(r: Reading) -> StateReading
-    ensures { λ n. ⌜ n ≡ packReading r ⌝ }
-{
-    let report = r.report;
-    let printer = r.printer;
-    let answer = report.answer;
-    StateReading {
-        answer: answer.number(),
-        counts: Counts {
-            read: report.read,
-            written: report.written,
-        },
-        state: pack::pack(printer),
-    }
-}
-
-// Numbers of no state: they stay as they are.
-fn refused(state: State) -> StateReading
-    ensures { λ r. ⌜ r ≡ refused state ⌝ }
-{
-    StateReading {
-        answer: Answer::StateRefused.number(),
-        counts: Counts {
-            read: 0,
-            written: 0,
-        },
-        state,
-    }
-}
-
-// The settings by their numbers.
-fn settings_of(given: [u32; SETTINGS]) -> StartSettings
-    ensures { λ r. ⌜ r ≡ settingsOf given ⌝ }
+// The settings by their numbers: any but 0 switches automatic line feed on.
+fn settings_in(given: &[u32; SETTINGS]) -> StartSettings
+    ensures { λ r. ⌜ r ≡ settingsIn (now (given .entry)) ⌝ }
 {
     StartSettings {
         resolution: given[0],
@@ -83,58 +20,29 @@ fn settings_of(given: [u32; SETTINGS]) -> StartSettings
     }
 }
 
-// A start, with the state as numbers.
-pub fn start_state(settings: StartSettings) -> StateStarted
-    ensures { λ r. ⌜ r ≡ stateStartOf settings ⌝ }
-{
-    pack_started(reader::start(settings))
-}
-
-// The same, by settings that are lent as numbers.
-fn start_lent(settings: &[u32; SETTINGS]) -> StateStarted
-    ensures { λ r. ⌜ r ≡ stateStartOf (settingsOf (now (settings .entry))) ⌝ }
-{
-    let given = *settings;
-    start_state(settings_of(given))
-}
-
-// A reading, with the state as numbers.
-pub fn read_state(state: State, input: &[u8], allowance: usize, out: &mut [u8]) -> StateReading
-    ensures { λ r. ⌜ StatePromise state (now (input .entry)) allowance (now (out .entry)) r (now (out .exit)) ⌝ }
-{
-    let unpacked = unpack::unpack(state);
-    let printer = unpacked.printer;
-    if unpacked.valid {
-        pack_reading(reader::read(printer, input, allowance, out))
-    } else {
-        refused(state)
-    }
-}
-
 // Starts a printer at 300 or 203 dots; refuses any other resolution.
 #[no_mangle]
-pub extern "C" fn escp_start(state: &mut State, settings: &[u32; SETTINGS]) -> u8
-    ensures { λ r. ⌜ EscpStartPromise (settingsOf (now (settings .entry))) r (now (state .exit)) ⌝ }
+pub extern "C" fn escp_start(state: &mut [u32; COUNT], settings: &[u32; SETTINGS]) -> u8
+    ensures { λ r. ⌜ EscpStartPromise (now (settings .entry)) r (now (state .exit)) ⌝ }
 {
-    let started = start_lent(settings);
-    *state = started.state;
-    started.answer
+    let answer = interpreter::start(state, settings_in(settings));
+    answer.number()
 }
 
-// Reads input into records, on a state that is lent.
+// Reads input into records.
 #[no_mangle]
 pub extern "C" fn escp_read(
-    state: &mut State,
+    state: &mut [u32; COUNT],
     input: &[u8],
     allowance: usize,
     out: &mut [u8],
-    counts: &mut Counts,
+    counts: &mut [usize; COUNTS],
 ) -> u8
     ensures { λ r. ⌜ EscpReadPromise (now (state .entry)) (now (input .entry)) allowance (now (out .entry)) r
         (now (state .exit)) (now (counts .exit)) (now (out .exit)) ⌝ }
 {
-    let reading = read_state(*state, input, allowance, out);
-    *state = reading.state;
-    *counts = reading.counts;
-    reading.answer
+    let report = interpreter::read(state, input, allowance, out);
+    let answer = report.answer;
+    *counts = [report.read, report.written];
+    answer.number()
 }

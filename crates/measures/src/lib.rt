@@ -3,4 +3,5 @@ pub mod encoding;
 pub mod paper;
 pub mod rounding;
 pub mod stops;
+pub mod styles;
 pub mod widths;

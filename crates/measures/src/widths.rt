@@ -1,11 +1,12 @@
 // Base, advance and column width.
+use printer::commands::Density;
 use printer::settings::Pitch;
 use printer::settings::Width;
 use printer::units::Units;
 ghost use mathlib.Core.Path.{_≡_};
 ghost use Prim.Native.Nat.{_≤_};
 ghost use Rattle.printer.specs.Units.{units};
-ghost use Rattle.printer.specs.Widths.{base, doubleWidth, advance, columnWidth};
+ghost use Rattle.printer.specs.Widths.{base, doubleWidth, advance, columnWidth, imageStep};
 
 fn base_units(w: Width) -> u32
     ensures { λ r. ⌜ (r ≡ base (w .pitch) (w .reduced) (w .proportional)) × (r ≤ 360) ⌝ }
@@ -57,5 +58,17 @@ pub fn column_width(w: Width) -> Units
         Units(360)
     } else {
         Units(advance_units(w))
+    }
+}
+
+// The units of an image column.
+pub fn image_step(d: Density) -> Units
+    ensures { λ r. ⌜ r ≡ units (imageStep d) ⌝ }
+{
+    match d {
+        Density::Single => Units(60),
+        Density::Double => Units(30),
+        Density::DoubleSpeed => Units(30),
+        Density::Quadruple => Units(15),
     }
 }

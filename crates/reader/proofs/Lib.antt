@@ -1,2 +1,2 @@
-pub mod Turns
-pub mod Types
+pub mod Lending
+pub mod Packed

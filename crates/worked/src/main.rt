@@ -1,10 +1,12 @@
-// A program: runs worked cases, and writes the records of each as lines of hex, or that its start is refused, and an empty line.
+// A program: runs worked cases, and writes the records of each as lines of hex, a line for each answer but 0, and an empty line.
 //
-// A case is: dots an inch (two bytes, low byte first), automatic line feed (0 or 1), the length of the input (two bytes, low byte first), the
-// input. It is read by one call, and again by a call for each byte.
+// A case is: dots an inch, the allowance and the output length of a reading call, the length of the input (two bytes each, low byte first),
+// automatic line feed (0 or 1), the input. It is read by calls until all is read or one reads nothing; what each of them read is read again
+// by a call for each byte, and by one call to which the state is lent.
 use libc::STDIN_FILENO;
 use libc::STDOUT_FILENO;
 use printer::answers::Answer;
+use printer::answers::Reading;
 use printer::records::Record;
 use printer::settings::StartSettings;
 use printer::state::Printer;
@@ -14,8 +16,38 @@ ghost use lib.ListN.{length};
 // The most bytes of input that a case has.
 const MOST: usize = 512;
 
+// The most bytes of output that a call has.
+const ROOM: usize = 2 * MOST * Record::SIZE;
+
 // The bytes before the input.
-const HEAD: usize = 5;
+const HEAD: usize = 9;
+
+// The allowance and the output length of each call.
+struct Limits {
+    allowance: usize,
+    room: usize,
+}
+
+// What a call leaves: the state, and how many bytes it read.
+struct Progress {
+    printer: Printer,
+    read: usize,
+}
+
+// The lesser of two numbers.
+fn least(a: usize, b: usize) -> usize
+    ensures { λ r. ⌜ r ≤ b ⌝ }
+{
+    if a < b { a } else { b }
+}
+
+// A reading call with these limits.
+fn read(printer: Printer, input: &[u8], limits: Limits, out: &mut [u8]) -> Reading
+    ensures { λ r. ⌜ (r .report .read ≤ length (now (input .entry))) × (r .report .written ≤ length (now (out .entry))) ⌝ }
+{
+    let room = least(limits.room, out.len());
+    reader::read(printer, input, limits.allowance, &mut out[0..room])
+}
 
 // What reading a byte leaves: the state, how many bytes it wrote, and whether they are those expected.
 struct Step {
@@ -67,40 +99,82 @@ fn cut_agrees(printer: Printer, input: &[u8], expected: &[u8]) -> bool {
     at == expected.len()
 }
 
+// Whether the input, read by a call to which the state is lent, gives the expected records.
+fn lent_agrees(printer: Printer, input: &[u8], expected: &[u8]) -> bool {
+    let mut records = [0u8; ROOM];
+    let reading = reader::read_by_lending(printer, input, input.len(), &mut records);
+    let report = reading.report;
+    let written = report.written;
+    check::same(&records[0..written], expected)
+}
+
 fn say(line: &[u8]) {
     io::write_all(STDOUT_FILENO, line);
 }
 
-// Reads the input by one call and writes its records, after a line for anything that is not as it should be.
-fn show(printer: Printer, input: &[u8]) {
-    let mut records = [0u8; 2 * MOST * Record::SIZE];
-    let mut text = [0u8; 2 * MOST * hex::LINE];
-    let reading = listing::read(printer, input, &mut records);
-    let report = reading.report;
-    let written = report.written;
-    if report.read < input.len() {
-        say(b"input left\n");
+fn say_answer(answer: Answer) {
+    match answer {
+        Answer::InputUsed => {}
+        Answer::AllowanceUsed => say(b"answer 1\n"),
+        Answer::OutputFull => say(b"answer 2\n"),
+        Answer::SettingsRefused => say(b"answer 3\n"),
+        Answer::StateRefused => say(b"answer 4\n"),
     }
-    if !cut_agrees(printer, input, &records[0..written]) {
+}
+
+// A reading call, whose records and answer are written, after a line if bytes read one by one, or on a state that is lent, give others.
+fn show_call(printer: Printer, input: &[u8], limits: Limits) -> Progress
+    ensures { λ r. ⌜ r .read ≤ length (now (input .entry)) ⌝ }
+{
+    let mut records = [0u8; ROOM];
+    let mut text = [0u8; 2 * MOST * hex::LINE];
+    let reading = read(printer, input, limits, &mut records);
+    let report = reading.report;
+    let next = reading.printer;
+    let written = report.written;
+    let count = report.read;
+    if !cut_agrees(printer, &input[0..count], &records[0..written]) {
         say(b"cut differs\n");
+    }
+    if !lent_agrees(printer, &input[0..count], &records[0..written]) {
+        say(b"lent differs\n");
     }
     let size = hex::lines(&records[0..written], &mut text);
     say(&text[0..size]);
-    say(b"\n");
+    let answer = report.answer;
+    say_answer(answer);
+    Progress {
+        printer: next,
+        read: count,
+    }
 }
 
-fn run(dots: u32, autofeed: bool, input: &[u8]) {
-    let settings = StartSettings {
-        resolution: dots,
-        autofeed,
-    };
+// Calls until all is read, or one reads nothing.
+fn show(printer: Printer, input: &[u8], limits: Limits) {
+    let mut p = printer;
+    let mut at = 0;
+    loop {
+        let progress = show_call(p, &input[at..], limits);
+        let next = progress.printer;
+        p = next;
+        at += progress.read;
+        if at == input.len() {
+            return;
+        }
+        if progress.read == 0 {
+            return;
+        }
+    }
+}
+
+// A case: the start, and the input on the state that it gives, even where it is refused.
+fn run(settings: StartSettings, input: &[u8], limits: Limits) {
     let started = reader::start(settings);
     let answer = started.answer;
     let printer = started.printer;
-    match answer {
-        Answer::InputUsed => show(printer, input),
-        _ => say(b"start refused\n\n"),
-    }
+    say_answer(answer);
+    show(printer, input, limits);
+    say(b"\n");
 }
 
 // Two bytes as a number.
@@ -123,8 +197,15 @@ fn next_case() -> bool {
     if fill(&mut head, HEAD) < HEAD {
         return false;
     }
-    let dots = word(head[0], head[1]);
-    let size = word(head[3], head[4]) as usize;
+    let settings = StartSettings {
+        resolution: word(head[0], head[1]),
+        autofeed: head[8] != 0,
+    };
+    let limits = Limits {
+        allowance: word(head[2], head[3]) as usize,
+        room: word(head[4], head[5]) as usize,
+    };
+    let size = word(head[6], head[7]) as usize;
     let mut input = [0u8; MOST];
     if MOST < size {
         say(b"input too long\n");
@@ -134,7 +215,7 @@ fn next_case() -> bool {
         say(b"input cut short\n");
         return false;
     }
-    run(dots, head[2] != 0, &input[0..size]);
+    run(settings, &input[0..size], limits);
     true
 }
 

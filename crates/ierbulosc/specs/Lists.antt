@@ -1,0 +1,95 @@
+-- Lists of the library's calls, over the caller's registers, and the reader's calls that they are.
+use Prim.Native.Nat.{ℕ}
+use mathlib.Core.Path.{_≡_}
+use mathlib.Core.List.{List, [], _∷_, _++_, map}
+use lib.ListN.{length, take, getD}
+use Rattle.printer.specs.Tools.{Each, Bytes}
+use Rattle.printer.specs.Calls.{StartCall, ReadCall, startOf, callOf, reportOf, numberOf}
+use Rattle.printer.specs.Demand3.{Call, started, read}
+use Rattle.registers.specs.State.{registersOf, printerIn}
+use Rattle.ierbulosc.specs.Calls.{settingsIn, EscpStartPromise, EscpReadPromise}
+
+-- Calls with what came back
+
+-- the settings as numbers, the answer's number, the registers after
+pub record LibraryStart : Type 0 where
+  pub given : List ℕ
+  pub number : ℕ
+  pub left : List ℕ
+
+-- the registers, input, allowance and output before; the answer's number, and the registers, counts and output after
+pub record LibraryRead : Type 0 where
+  pub state : List ℕ
+  pub input : List ℕ
+  pub allowance : ℕ
+  pub out : List ℕ
+  pub number : ℕ
+  pub left : List ℕ
+  pub counted : List ℕ
+  pub after : List ℕ
+
+pub data LibraryCall : Type 0 where
+  starts : LibraryStart → LibraryCall
+  reads : LibraryRead → LibraryCall
+
+-- each call met its promise, and got the registers that the call before it left; input is bytes
+abbrev pub Linked : (held : List ℕ) → List LibraryCall → Type 0
+Linked held [] = Unit
+Linked held (starts c ∷ l) = EscpStartPromise (c .given) (c .number) (c .left) × Linked (c .left) l
+Linked held (reads c ∷ l) =
+    ((c .state ≡ held) × Bytes (c .input)
+    × EscpReadPromise (c .state) (c .input) (c .allowance) (c .out) (c .number) (c .left) (c .counted) (c .after))
+    × Linked (c .left) l
+
+-- The reader's calls
+
+abbrev pub asStart : LibraryStart → StartCall
+asStart c = record { settings = settingsIn (c .given); back = startOf (settingsIn (c .given)) }
+
+abbrev pub asRead : LibraryRead → ReadCall
+asRead c =
+    let v = callOf (printerIn (c .state)) (c .input) (c .allowance) (length (c .out)) in
+    record {
+      state = printerIn (c .state);
+      input = c .input;
+      allowance = c .allowance;
+      out = c .out;
+      back = reportOf v;
+      left = v .printer;
+      after = c .after;
+    }
+
+abbrev pub asCall : LibraryCall → Call
+asCall (starts c) = started (asStart c)
+asCall (reads c) = read (asRead c)
+
+-- and with the same answers, counts and states
+abbrev pub Same : LibraryCall → Type 0
+Same (starts c) = (c .number ≡ numberOf (asStart c .back .answer)) × (c .left ≡ registersOf (asStart c .back .printer))
+Same (reads c) =
+    (c .number ≡ numberOf (asRead c .back .answer))
+    × (c .state ≡ registersOf (asRead c .state)) × (c .left ≡ registersOf (asRead c .left))
+    × (c .counted ≡ asRead c .back .read ∷ asRead c .back .written ∷ [])
+
+-- the bytes written, by the counts, joined over all calls
+abbrev pub writtenBy : LibraryCall → List ℕ
+writtenBy (starts c) = []
+writtenBy (reads c) = take (getD (c .counted) 1 0) (c .after)
+
+unfoldable pub joinedBytes : List LibraryCall → List ℕ
+joinedBytes [] = []
+joinedBytes (c ∷ l) = writtenBy c ++ joinedBytes l
+
+-- Reading calls alone
+
+unfoldable pub lastRegisters : (held : List ℕ) → List LibraryRead → List ℕ
+lastRegisters held [] = held
+lastRegisters held (c ∷ l) = lastRegisters (c .left) l
+
+unfoldable pub givenInput : List LibraryRead → List ℕ
+givenInput [] = []
+givenInput (c ∷ l) = c .input ++ givenInput l
+
+-- each read its piece to the end: answer 0
+abbrev pub AllRead : List LibraryRead → Type 0
+AllRead l = Each (λ (c : LibraryRead). c .number ≡ 0) l

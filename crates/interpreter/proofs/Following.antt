@@ -1,0 +1,151 @@
+-- Letters, and image bytes, that follow each other on a line: what the rules do with them.
+use Prim.Native.Nat.{ℕ, suc, _+_, _*_, _-_, _≤_, _<_}
+use mathlib.Core.Path.{_≡_, refl, sym, ap, _∙_}
+use mathlib.Core.Bool.{Bool, true, false}
+use mathlib.Core.List.{List, [], _∷_}
+use native.Mathlib.Nat.{zero-mul, suc-mul, add-zero, sub-zero}
+use native.Mathlib.Numerals.{add-one}
+use native.Mathlib.Omega.{arith}
+use lib.Dec.{leb}
+use lib.ListN.{length, take, getD}
+use lib.Seq.{take-suc}
+use borrow.Author.Tests.{leb-true, leb-false, le-leb, ne-eqb}
+use Rattle.printer.specs.Tools.{pick, either, within}
+use Rattle.printer.specs.Framing.{isLetter, frame, imageWait}
+use Rattle.printer.specs.Records.{recordSize, roomForByte, letterRecord, imageRecord}
+use Rattle.printer.specs.Settings.{rightOf, acrossOf, advanceOf}
+use Rattle.printer.specs.Performing.{performAll, recordsAll}
+use Rattle.printer.specs.Deciding.{attempt, letterEvents}
+use Rattle.printer.specs.Steps.{waitFor, stepEvents, stepOf, stepRecords, stateAfter, recordsOver}
+use Rattle.printer.specs.Units.{perInchAcross, rounded}
+use Rattle.printer.specs.Widths.{imageStep}
+use Rattle.printer.specs.declared.commands.Density.{Density}
+use Rattle.printer.specs.declared.commands.Waiting.{Waiting}
+use Rattle.printer.specs.declared.records.Record.{Record}
+use Rattle.printer.specs.declared.state.Printer.{Printer}
+use Rattle.printer.proofs.Choices.{each-append}
+use Rattle.printer.proofs.CodeLaws.{both-true}
+use Rattle.interpreter.specs.Leaving.{movedTo}
+use Rattle.interpreter.specs.Series.{likeAt, placedAll}
+use Rattle.interpreter.specs.Taking.{Letters, RoomForEach}
+use Rattle.interpreter.proofs.Runs.{state-cons, records-cons, room-cons}
+
+-- what the rules do with some bytes: room before each, the state after them and their records
+pub record AreRead (p : Printer) (l : List ℕ) (room : ℕ) (q : Printer) (k : List Record) : Type 0 where
+  pub enough : RoomForEach p l room
+  pub state : stateAfter p l ≡ q
+  pub records : recordsOver p l ≡ k
+
+none-read : (p : Printer) (room : ℕ) → AreRead p [] room p []
+unfolding RoomForEach stateAfter recordsOver
+none-read p room = record { enough = tt; state = refl; records = refl }
+
+-- a byte that writes one record, before others
+more-read : {p q : Printer} {b room : ℕ} {l : List ℕ} {r : Record} {k : List Record} (next : Printer)
+    → roomForByte ≤ room → stepOf p b ≡ next → stepRecords p b ≡ r ∷ [] → AreRead next l (room - recordSize) q k
+    → AreRead p (b ∷ l) room q (r ∷ k)
+more-read {p} {q} {b} {room} {l} next h e f v =
+    record {
+      enough = room-cons p b l room h (rw (e, f) (v .enough));
+      state = rw (state-cons p b l, e) (v .state);
+      records = rw (records-cons p b l, e, f, v .records);
+    }
+
+-- a record's column and byte make no difference to the records placed like it
+pub placed-like : (v : Record) (d x step : ℕ) (l : List ℕ) → placedAll v d x step l ≡ placedAll (likeAt v 0 0) d x step l
+unfolding placedAll
+placed-like v d x step [] = refl
+placed-like v d x step (b ∷ l) = ap (λ (k : List Record). likeAt v (rounded d x) b ∷ k) (placed-like v d (x + step) step l)
+
+-- Letters
+
+module _ (p : Printer) (b : ℕ) (e : p .waiting ≡ Waiting.Nothing) (h : isLetter (p .settings .upperprints) b ≡ true)
+    (f : acrossOf (p .place) + advanceOf (p .settings) ≤ rightOf (p .settings)) where
+  letter-state : stepOf p b ≡ movedTo p (acrossOf (p .place) + advanceOf (p .settings))
+  unfolding stepOf stepEvents frame letterEvents performAll
+  letter-state = rw (e, h, le-leb _ _ f)
+
+  letter-records : stepRecords p b ≡ letterRecord (p .settings) (p .place) b (advanceOf (p .settings)) ∷ []
+  unfolding stepRecords stepEvents frame letterEvents recordsAll
+  letter-records = rw (e, h, le-leb _ _ f)
+
+-- TX but for its column and its byte
+abbrev pub letterLike : Printer → Record
+letterLike p = likeAt (letterRecord (p .settings) (p .place) 0 (advanceOf (p .settings))) 0 0
+
+pub letters-read : (l : List ℕ) (p : Printer) (room : ℕ) → p .waiting ≡ Waiting.Nothing → Letters (p .settings .upperprints) l
+    → acrossOf (p .place) + length l * advanceOf (p .settings) ≤ rightOf (p .settings) → recordSize * length l + recordSize ≤ room
+    → AreRead p l room (movedTo p (acrossOf (p .place) + length l * advanceOf (p .settings)))
+    (placedAll (letterLike p) (perInchAcross (p .settings .setup .resolution)) (acrossOf (p .place)) (advanceOf (p .settings)) l)
+unfolding placedAll
+letters-read [] p room e h f g = rw (zero-mul, add-zero) (none-read p room)
+letters-read (b ∷ l) p room e h f g =
+    let w = advanceOf (p .settings) in
+    let x = acrossOf (p .place) in
+    let n : x + suc (length l) * w ≡ x + w + length l * w = omega (arith, suc-mul (length l) w) in
+    let k : x + w ≤ rightOf (p .settings) = omega (arith, n) in
+    rw n
+    (more-read (movedTo p (x + w)) (omega arith) (letter-state p b e (h .0) k) (letter-records p b e (h .0) k)
+    (letters-read l (movedTo p (x + w)) (room - recordSize) e (h .1) (omega (arith, n)) (omega arith)))
+
+-- Image bytes
+
+module _ (p : Printer) (d : Density) (n b : ℕ) (e : p .waiting ≡ Waiting.ImageData d n)
+    (f : acrossOf (p .place) + imageStep d ≤ rightOf (p .settings)) where
+  image-state : stepOf p b ≡ waitFor (movedTo p (acrossOf (p .place) + imageStep d)) (imageWait d (n - 1))
+  unfolding stepOf stepEvents frame attempt performAll
+  image-state = rw (e, le-leb _ _ f)
+
+  image-records : stepRecords p b ≡ imageRecord (p .settings) (p .place) b (imageStep d) ∷ []
+  unfolding stepRecords stepEvents frame attempt recordsAll
+  image-records = rw (e, le-leb _ _ f)
+
+-- IM but for its column and its byte
+abbrev pub imageLike : Printer → Density → Record
+imageLike p d = likeAt (imageRecord (p .settings) (p .place) 0 (imageStep d)) 0 0
+
+pub some-columns : (d : Density) (n : ℕ) → 1 ≤ n → imageWait d n ≡ Waiting.ImageData d n
+some-columns d n h = rw (ne-eqb n 0 (λ e. omega arith))
+
+pub images-read : (l : List ℕ) (p : Printer) (d : Density) (n room : ℕ) → p .waiting ≡ imageWait d n → length l ≤ n
+    → acrossOf (p .place) + length l * imageStep d ≤ rightOf (p .settings) → recordSize * length l + recordSize ≤ room
+    → AreRead p l room (waitFor (movedTo p (acrossOf (p .place) + length l * imageStep d)) (imageWait d (n - length l)))
+    (placedAll (imageLike p d) (perInchAcross (p .settings .setup .resolution)) (acrossOf (p .place)) (imageStep d) l)
+unfolding placedAll
+images-read [] p d n room e i f g = rw (zero-mul, add-zero, sub-zero, ← e) (none-read p room)
+images-read (b ∷ l) p d n room e i f g =
+    let w = imageStep d in
+    let x = acrossOf (p .place) in
+    let q : Printer = waitFor (movedTo p (x + w)) (imageWait d (n - 1)) in
+    let m : x + suc (length l) * w ≡ x + w + length l * w = omega (arith, suc-mul (length l) w) in
+    let c : n - suc (length l) ≡ n - 1 - length l = omega arith in
+    let k : x + w ≤ rightOf (p .settings) = omega (arith, m) in
+    let z : p .waiting ≡ Waiting.ImageData d n = e ∙ some-columns d n (omega arith) in
+    rw (m, c)
+    (more-read q (omega arith) (image-state p d n b z k) (image-records p d n b z k)
+    (images-read l q d (n - 1) (room - recordSize) refl (omega arith) (omega (arith, m)) (omega arith)))
+
+-- The loop that counts letters
+
+-- a letter by the first byte above 7Fh that is one
+upper-test : (b : ℕ) → leb 0x80 b ≡ either (leb 0xA0 b) (within 0x80 0x9F b)
+upper-test b = go (leb 0xA0 b) refl
+  where
+    go : (t : Bool) → leb 0xA0 b ≡ t → leb 0x80 b ≡ either (leb 0xA0 b) (within 0x80 0x9F b)
+    go true e = let h : 0x80 ≤ b = omega (arith, leb-true 0xA0 b e) in rw (e, le-leb 0x80 b h)
+    go false e = let h : b ≤ 0x9F = omega (arith, leb-false 0xA0 b e) in rw (e, le-leb b 0x9F h) (sym (both-true (leb 0x80 b)))
+
+either-false : (t : Bool) → either t false ≡ t
+either-false true = refl
+either-false false = refl
+
+pub letter-from : (upper : Bool) (b : ℕ) {from : ℕ} → from ≡ pick upper 0x80 0xA0
+    → either (within 0x20 0x7E b) (leb from b) ≡ true → isLetter upper b ≡ true
+unfolding isLetter
+letter-from true b e h = rw (← upper-test b) (rw e at h)
+letter-from false b e h = rw (either-false (leb 0xA0 b)) (rw e at h)
+
+pub one-letter-more : (upper : Bool) (input : List ℕ) (n : ℕ) → n < length input → Letters upper (take n input)
+    → isLetter upper (getD input n 0) ≡ true → Letters upper (take (n + 1) input)
+one-letter-more upper input n h k e =
+    rw (add-one, take-suc input n 0) (each-append (λ b. isLetter upper b ≡ true) (take n input) (getD input n 0 ∷ []) k (e, tt))

@@ -1,0 +1,129 @@
+-- What a turn takes: one byte, or bytes that follow each other.
+use Prim.Native.Nat.{ℕ, _+_, _*_, _-_, _≤_, _<_}
+use mathlib.Core.Path.{_≡_, refl, sym, _∙_}
+use mathlib.Core.Bool.{Bool, true, false}
+use mathlib.Core.List.{List, [], _∷_, append-nil}
+use native.Mathlib.Omega.{arith}
+use lib.ListN.{length, take, getD, set}
+use lib.Seq.{length-take-le}
+use Rattle.printer.specs.Units.{perInchAcross}
+use Rattle.printer.specs.Framing.{imageWait}
+use Rattle.printer.specs.Records.{recordSize, roomForByte, letterRecord, imageRecord}
+use Rattle.printer.specs.Settings.{advanceOf}
+use Rattle.printer.specs.Steps.{stateAfter, recordsOver}
+use Rattle.printer.specs.Widths.{base, doubleWidth, advance, imageStep}
+use Rattle.printer.specs.declared.commands.Density.{Density}
+use Rattle.printer.specs.declared.commands.Waiting.{Waiting}
+use Rattle.printer.specs.declared.records.Record.{Record}
+use Rattle.printer.specs.declared.settings.Pitch.{Pitch}
+use Rattle.printer.specs.declared.settings.Width.{Width}
+use Rattle.printer.specs.declared.state.Printer.{Printer}
+use Rattle.printer.specs.declared.units.Resolution.{Resolution}
+use Rattle.printer.proofs.Choices.{pick-elim}
+use Rattle.registers.specs.declared.pending.Pending.{Pending}
+use Rattle.registers.specs.Groups.{isSet}
+use Rattle.registers.specs.Layout.{laid, words}
+use Rattle.registers.proofs.Reading.{advance-held, upper-held}
+use Rattle.interpreter.specs.declared.steps.Stepping.{Stepping}
+use Rattle.interpreter.specs.Output.{Written}
+use Rattle.interpreter.specs.Series.{placedAll}
+use Rattle.interpreter.specs.Taking.{Current, Fits, Letters, RoomForEach, StepPromise, TurnPromise}
+use Rattle.interpreter.proofs.Places.{across-held, right-held, across-stored}
+use Rattle.interpreter.proofs.Following.{AreRead, placed-like, some-columns, letters-read, images-read}
+
+pub byte-taken : {p : Printer} {v : Pending} {input out m after : List ℕ} {back : Stepping} {left : ℕ}
+    → 0 < length input → roomForByte ≤ length out → StepPromise p v (getD input 0 0) back m out 0 after
+    → TurnPromise p v input out (record { waiting = back .waiting; read = 1; written = back .written; left = left }) m after
+unfolding RoomForEach stateAfter recordsOver
+byte-taken {input = []} h k s = absurd (omega arith)
+byte-taken {input = b ∷ l} h k s =
+    record { within = omega arith; enough = (k, tt); same = s .same; waits = s .waits; wrote = rw append-nil (s .wrote) }
+
+-- Bytes that follow each other
+
+-- bytes that the rules read so
+bytes-taken : {p q : Printer} {v : Pending} {input out m after : List ℕ} {n left : ℕ} {w : Waiting} {k : List Record}
+    → n ≤ length input → AreRead p (take n input) (length out) q k → m ≡ words v q → w ≡ q .waiting
+    → Written out 0 k (recordSize * n) after
+    → TurnPromise p v input out (record { waiting = w; read = n; written = recordSize * n; left = left }) m after
+bytes-taken h r e f g =
+    record { within = h; enough = r .enough; same = rw (r .state) e; waits = rw (r .state) f; wrote = rw (r .records) g }
+
+base-positive : (p : Pitch) (reduced proportional : Bool) → 0 < base p reduced proportional
+base-positive Pitch.Cpi10 false false = omega arith
+base-positive Pitch.Cpi12 false false = omega arith
+base-positive Pitch.Cpi15 false false = omega arith
+base-positive Pitch.Cpi10 true false = omega arith
+base-positive Pitch.Cpi12 true false = omega arith
+base-positive Pitch.Cpi15 true false = omega arith
+base-positive p false true = omega arith
+base-positive p true true = omega arith
+
+advance-positive : (w : Width) → 0 < advance w
+advance-positive w =
+    pick-elim (λ (n : ℕ). 0 < n * (base (w .pitch) (w .reduced) (w .proportional) + 20 * w .spacing)) (doubleWidth w)
+    (λ _. omega (arith, base-positive (w .pitch) (w .reduced) (w .proportional)))
+    (λ _. omega (arith, base-positive (w .pitch) (w .reduced) (w .proportional)))
+
+pub step-positive : (d : Density) → 0 < imageStep d
+step-positive Density.Single = omega arith
+step-positive Density.Double = omega arith
+step-positive Density.DoubleSpeed = omega arith
+step-positive Density.Quadruple = omega arith
+
+dots-few : (r : Resolution) → perInchAcross r ≤ 300
+dots-few Resolution.Dots300 = omega arith
+dots-few Resolution.Dots203 = omega arith
+
+module _ {p : Printer} {v : Pending} {w : Waiting} {m : List ℕ} (h : Current p v w m) where
+  dots-held : getD m 11 0 ≡ perInchAcross (p .settings .setup .resolution)
+  unfolding laid
+  dots-held = rw (h .held .same)
+
+  -- what makes the code safe
+  pub in-margins : getD m 4 0 ≤ getD m 7 0
+  in-margins = rw (across-held (h .held), right-held (h .held)) (h .accepted .place .1 .0)
+
+  pub right-most : (getD m 7 0 ≤ 28800) × (getD m 11 0 ≤ 300)
+  right-most = (rw (right-held (h .held)) (h .accepted .settings .1 .0), rw dots-held (dots-few (p .settings .setup .resolution)))
+
+  pub advances : 0 < getD m 35 0
+  advances = rw (advance-held (h .held)) (advance-positive (p .settings .width))
+
+  -- image data is of some columns
+  pub some-column : {d : Density} {columns : ℕ} → w ≡ Waiting.ImageData d columns → 0 < columns
+  some-column {d} {columns} e =
+      let z : p .waiting ≡ Waiting.ImageData d columns = sym (h .waits) ∙ e in
+      let b = (rw z at (h .accepted .waiting)) .0 in
+      omega (arith, b)
+
+  module _ {input out after : List ℕ} {n : ℕ} (left : ℕ) {r : Record} where
+    pub letters-taken : w ≡ Waiting.Nothing → Fits n (length input) (length out) (getD m 4 0) (getD m 35 0) (getD m 7 0)
+        → Letters (isSet (getD m 33 0)) (take n input) → r ≡ letterRecord (p .settings) (p .place) 0 (advanceOf (p .settings))
+        → Written out 0 (placedAll r (getD m 11 0) (getD m 4 0) (getD m 35 0) (take n input)) (recordSize * n) after
+        → TurnPromise p v input out (record { waiting = Waiting.Nothing; read = n; written = recordSize * n; left = left })
+        (set m 4 (getD m 4 0 + n * getD m 35 0)) after
+    letters-taken e f l k g =
+        let c : length (take n input) ≡ n = length-take-le n input (f .some-input) in
+        let a = letters-read (take n input) p (length out) (sym (h .waits) ∙ e) (rw (upper-held (h .held)) at l)
+        (rw c (rw (across-held (h .held), advance-held (h .held), right-held (h .held)) at (f .in-margin))) (rw c (f .some-room)) in
+        rw (across-held (h .held), advance-held (h .held))
+        (bytes-taken (f .some-input) (rw c at a) (across-stored (h .held) _) (sym e ∙ h .waits)
+        (rw (k, dots-held, across-held (h .held), advance-held (h .held), placed-like) at g))
+
+    pub images-taken : {d : Density} {columns : ℕ} → w ≡ Waiting.ImageData d columns → n ≤ columns
+        → Fits n (length input) (length out) (getD m 4 0) (imageStep d) (getD m 7 0)
+        → r ≡ imageRecord (p .settings) (p .place) 0 (imageStep d)
+        → Written out 0 (placedAll r (getD m 11 0) (getD m 4 0) (imageStep d) (take n input)) (recordSize * n) after
+        → TurnPromise p v input out (record { waiting = imageWait d (columns - n); read = n; written = recordSize * n; left = left })
+        (set m 4 (getD m 4 0 + n * imageStep d)) after
+    unfolding laid
+    images-taken {d} {columns} e i f k g =
+        let c : length (take n input) ≡ n = length-take-le n input (f .some-input) in
+        let z : p .waiting ≡ Waiting.ImageData d columns = sym (h .waits) ∙ e in
+        let b = (rw z at (h .accepted .waiting)) .0 in
+        let a = images-read (take n input) p d columns (length out) (z ∙ sym (some-columns d columns b)) (rw c i)
+        (rw c (rw (across-held (h .held), right-held (h .held)) at (f .in-margin))) (rw c (f .some-room)) in
+        rw (across-held (h .held))
+        (bytes-taken (f .some-input) (rw c at a) (across-stored (h .held) _) refl
+        (rw (k, dots-held, across-held (h .held), placed-like) at g))

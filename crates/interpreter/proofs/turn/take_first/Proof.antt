@@ -1,0 +1,19 @@
+-- One byte between commands: its step.
+use native.Mathlib.Omega.{arith}
+use borrow.Author.Needs.{needs}
+use Rattle.interpreter.proofs.Taken.{byte-taken}
+use Rattle.interpreter.proofs.turn.take_first.Statement.{statement}
+use Rattle.interpreter.proofs.turn.take_first.Tie as tie
+
+returns : tie.Need-returns
+returns c =
+    let s = c .before .before in
+    let a = s .before .before .before .before .before .before in (
+      λ p v h. byte-taken (a .pre .0 .0) (a .pre .0 .1) (s .first-step .ensures p v h),
+      (omega arith, omega (arith, a .pre)),
+    )
+
+pub take-first-spec : {M : Type 1} → statement M
+take-first-spec =
+    tie.close
+    (tie.spec (λ c. search needs) (λ c κs. search needs) (λ c. search needs) (λ c. search needs) returns)

@@ -1,0 +1,10 @@
+pub mod Output
+pub mod Outcome
+pub mod Doing
+pub mod Series
+pub mod Calls
+pub mod Taking
+pub mod Searching
+pub mod Reaching
+pub mod Leaving
+pub mod Storing

@@ -1,0 +1,207 @@
+// A series of bytes on a line, each placed a step further across: letters, and image bytes.
+use printer::records::Mark;
+use printer::records::Record;
+use printer::units::Units;
+use registers::ACROSS;
+use registers::COUNT;
+use registers::DOTS_ACROSS;
+use registers::RIGHT;
+ghost use mathlib.Core.Path.{_≡_};
+ghost use mathlib.Core.List.{[], _∷_};
+ghost use Prim.Native.Nat.{_+_, _*_, _≤_, _<_, min};
+ghost use lib.ListN.{length, take, getD, set};
+ghost use lib.Dec.{leb};
+ghost use Rattle.printer.specs.Tools.{pick, either, within};
+ghost use Rattle.printer.specs.Records.{markLow, markHigh, recordSize, roomForByte, encoded};
+ghost use Rattle.printer.specs.declared.records.Record.{Record};
+ghost use Rattle.interpreter.specs.Output.{Written};
+ghost use Rattle.interpreter.specs.Series.{blankOf, digits, placedAll};
+ghost use Rattle.interpreter.specs.Taking.{Fits, Letters};
+
+// A record's bytes but for its column and its byte, as three numbers.
+pub(crate) struct Blank {
+    head: u64,
+    tail: u32,
+    advance: u32,
+}
+
+fn mark_number(mark: Mark) -> u64
+    ensures { λ r. ⌜ (r ≡ markLow mark + 256 * markHigh mark) × (r ≤ 65535) ⌝ }
+{
+    match mark {
+        Mark::Tx => 0x5854,
+        Mark::Im => 0x4D49,
+        Mark::Ln => 0x4E4C,
+        Mark::Cl => 0x4C43,
+        Mark::No => 0x4F4E,
+    }
+}
+
+fn blank_of(v: Record) -> Blank
+    ensures { λ r. ⌜ (r ≡ blankOf v) × (r .head ≤ 18374967950353432575) ⌝ }
+{
+    let mark = v.mark;
+    Blank {
+        head: mark_number(mark)
+            + 4294967296 * (v.row.0 % 65536) as u64
+            + 72057594037927936 * v.font as u64,
+        tail: v.style as u32 + 65536 * v.country as u32,
+        advance: v.advance.0,
+    }
+}
+
+// The record's bytes, with a column and a byte, as digits: they are stored as three numbers.
+fn bytes_at(blank: Blank, column: u32, b: u8) -> [u8; 14]
+    requires { ⌜ blank .head + 65536 * column + 281474976710656 * b < 18446744073709551616 ⌝ }
+    ensures { λ r. ⌜ r ≡ digits (blank .head + 65536 * column + 281474976710656 * b) (blank .tail) (blank .advance) ⌝ }
+{
+    let h = blank.head + 65536 * column as u64 + 281474976710656 * b as u64;
+    let t = blank.tail;
+    let a = blank.advance;
+    [
+        (h % 256) as u8,
+        (h / 256 % 256) as u8,
+        (h / 65536 % 256) as u8,
+        (h / 16777216 % 256) as u8,
+        (h / 4294967296 % 256) as u8,
+        (h / 1099511627776 % 256) as u8,
+        (h / 281474976710656 % 256) as u8,
+        (h / 72057594037927936 % 256) as u8,
+        (t % 256) as u8,
+        (t / 256 % 256) as u8,
+        (t / 65536 % 256) as u8,
+        (t / 16777216 % 256) as u8,
+        (a % 256) as u8,
+        (a / 256 % 256) as u8,
+    ]
+}
+
+// Writes a record's bytes from `at`.
+fn write_bytes(out: &mut [u8], at: usize, all: [u8; 14])
+    requires { ⌜ at + recordSize ≤ length (now out) ⌝ }
+    ensures { λ _. ⌜ ((v : Record) → all ≡ encoded v → Written (now (out .entry)) at (v ∷ []) (at + recordSize) (now (out .exit))) ⌝ }
+{
+    let end = at + Record::SIZE;
+    bytes::copy(&all, &mut out[at..end]);
+}
+
+// Places all of the input: records like one, from a position on, each a step further and rounded from its exact place.
+// The allowance falls by one for each byte; gives what is left of it.
+pub(crate) fn place_all(
+    v: Record,
+    d: u32,
+    across: Units,
+    step: Units,
+    input: &[u8],
+    out: &mut [u8],
+    allowance: usize,
+) -> usize
+    requires { ⌜ (d ≤ 300) × (step .0 ≤ 28800) ⌝ }
+    requires { ⌜ across .0 + length (now input) * step .0 ≤ 28800 ⌝ }
+    requires { ⌜ (recordSize * length (now input) ≤ length (now out)) × (length (now input) ≤ allowance) ⌝ }
+    ensures { λ _. ⌜ Written (now (out .entry)) 0 (placedAll v d (across .0) (step .0) (now (input .entry)))
+        (recordSize * length (now (input .entry))) (now (out .exit)) ⌝ }
+    ensures { λ left. ⌜ left + length (now (input .entry)) ≡ allowance ⌝ }
+{
+    let blank = blank_of(v);
+    let from = across.0;
+    let each = step.0;
+    let by = each * d;
+    let mut exact = from * d + 1800;
+    let mut n: usize = 0;
+    let mut at: usize = 0;
+    let mut left = allowance;
+    while n < input.len() {
+        write_bytes(&mut *out, at, bytes_at(blank, exact / 3600, input[n]));
+        exact += by;
+        n += 1;
+        left -= 1;
+        at += Record::SIZE;
+    }
+    left
+}
+
+// The lesser of two numbers.
+pub(crate) fn least(a: usize, b: usize) -> usize
+    ensures { λ r. ⌜ r ≡ min a b ⌝ }
+{
+    if a < b { a } else { b }
+}
+
+// How many steps a length has room for.
+fn steps_in(length: Units, step: Units) -> usize
+    requires { ⌜ 0 < step .0 ⌝ }
+    ensures { λ r. ⌜ r * step .0 ≤ length .0 ⌝ }
+{
+    (length.0 / step.0) as usize
+}
+
+// How many bytes may follow each other from here, each a step further: they have input and room, and end within the right margin.
+pub(crate) fn most_here(m: &[u32; COUNT], step: Units, input: usize, room: usize) -> usize
+    requires { ⌜ (0 < step .0) × (roomForByte ≤ room) ⌝ }
+    requires { ⌜ getD (now m) 4 0 ≤ getD (now m) 7 0 ⌝ }
+    ensures { λ n. ⌜ Fits n input room (getD (now (m .entry)) 4 0) (step .0) (getD (now (m .entry)) 7 0) ⌝ }
+{
+    let fitting = steps_in(Units(m[RIGHT] - m[ACROSS]), step);
+    let records = room / Record::SIZE - 1;
+    least(fitting, least(records, input))
+}
+
+// The first byte above 7Fh that is a letter, by whether 80h to 9Fh print.
+fn upper_letters(upper: bool) -> u8
+    ensures { λ r. ⌜ r ≡ pick upper 0x80 0xA0 ⌝ }
+{
+    if upper { 0x80 } else { 0xA0 }
+}
+
+// Whether a byte prints.
+fn prints(from: u8, b: u8) -> bool
+    ensures { λ r. ⌜ r ≡ either (within 0x20 0x7E b) (leb from b) ⌝ }
+{
+    ((0x20 <= b) & (b <= 0x7E)) | (from <= b)
+}
+
+// How many of the first bytes, up to a number of them, are letters before one that is not.
+pub(crate) fn letters_in(upper: bool, input: &[u8], most: usize) -> usize
+    requires { ⌜ most ≤ length (now input) ⌝ }
+    ensures { λ n. ⌜ (n ≤ most) × Letters upper (take n (now (input .entry))) ⌝ }
+{
+    let from = upper_letters(upper);
+    let mut n: usize = 0;
+    while n < most {
+        let b = input[n];
+        let letter = prints(from, b);
+        if !letter {
+            break;
+        }
+        n += 1;
+    }
+    n
+}
+
+// Places the first bytes like a record, so many, and moves the position across; gives what is left of the allowance.
+pub(crate) fn place_first(
+    m: &mut [u32; COUNT],
+    v: Record,
+    step: Units,
+    n: usize,
+    input: &[u8],
+    out: &mut [u8],
+    allowance: usize,
+) -> usize
+    requires { ⌜ (0 < n) × ((n ≤ allowance) × (0 < step .0)) ⌝ }
+    requires { ⌜ Fits n (length (now input)) (length (now out)) (getD (now m) 4 0) (step .0) (getD (now m) 7 0) ⌝ }
+    requires { ⌜ (getD (now m) 7 0 ≤ 28800) × (getD (now m) 11 0 ≤ 300) ⌝ }
+    ensures { λ _. ⌜ now (m .exit) ≡ set (now (m .entry)) 4 (getD (now (m .entry)) 4 0 + n * step .0) ⌝ }
+    ensures { λ _. ⌜ Written (now (out .entry)) 0
+        (placedAll v (getD (now (m .entry)) 11 0) (getD (now (m .entry)) 4 0) (step .0) (take n (now (input .entry))))
+        (recordSize * n) (now (out .exit)) ⌝ }
+    ensures { λ left. ⌜ left + n ≡ allowance ⌝ }
+{
+    let across = m[ACROSS];
+    let d = m[DOTS_ACROSS];
+    let left = place_all(v, d, Units(across), step, &input[0..n], out, allowance);
+    let by = n as u32 * step.0;
+    m[ACROSS] = across + by;
+    left
+}

@@ -1,0 +1,12 @@
+pub mod Laws
+pub mod Reading
+pub mod Copying
+pub mod Laying
+pub mod Packing
+pub mod Again
+pub mod Starting
+pub mod Tested
+pub mod Types
+pub mod StopLists
+pub mod Waiting
+pub mod State

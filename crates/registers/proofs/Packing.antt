@@ -1,0 +1,76 @@
+-- A state by value stored group by group is its registers.
+use Prim.Native.Nat.{ℕ, suc, _+_, _<_}
+use mathlib.Core.Path.{_≡_, refl, ap, _∙_}
+use mathlib.Core.List.{List, [], _∷_, _++_, append-assoc}
+use native.Mathlib.Omega.{arith}
+use lib.ListN.{length, drop, set, length-append, length-drop, drop-of-length-le}
+use lib.Seq.{drop-drop, set-at, take-at, drop-at}
+use Rattle.printer.specs.Accepted.{StopsTyped}
+use Rattle.printer.specs.declared.state.Printer.{Printer}
+use Rattle.printer.specs.declared.stops.TabStops.{TabStops}
+use Rattle.registers.specs.declared.pending.Pending.{Pending}
+use Rattle.registers.specs.Layout.{registerCount, flag, derivedOf, pendingWords, placeWords, settingsWords, derivedWords, laid, words}
+use Rattle.registers.specs.Stores.{stores, placeCells, settingsStored, over, listStored, stopsStored, staleIn}
+use Rattle.registers.proofs.Laying.{firsts, listed}
+
+-- laid after so many registers
+over-next : (h l r : List ℕ) (from : ℕ) → length h ≡ from → over from l (h ++ r) ≡ (h ++ l) ++ drop (length l) r
+over-next h l r from e = rw (take-at h r from e, ← drop-drop, drop-at h r from e, append-assoc)
+
+-- a list's count, and its stops
+abbrev both : TabStops → List ℕ
+both t = t .count ∷ t .stops
+
+list-next : (h r : List ℕ) (t : TabStops) (from : ℕ) → length h ≡ from → 0 < length r
+    → listStored from t (h ++ r) ≡ (h ++ both t) ++ drop (suc (length (t .stops))) r
+list-next h [] t from e k = absurd (omega arith)
+list-next h (y ∷ r) t from e k =
+    let s : set (h ++ (y ∷ r)) from (t .count) ≡ (h ++ (t .count ∷ [])) ++ r =
+    set-at h _ _ _ from e ∙ rw append-assoc in
+    let n : length (h ++ (t .count ∷ [])) ≡ from + 1 = simp length-append (omega arith) in
+    ap (over (from + 1) (t .stops)) s ∙ over-next (h ++ (t .count ∷ [])) (t .stops) r (from + 1) n ∙ simp append-assoc
+
+-- the registers before the lists
+abbrev front : Pending → Printer → List ℕ → List ℕ
+front v p l =
+    pendingWords v (placeWords (p .place) (settingsWords (p .settings)
+    (derivedWords (derivedOf (p .settings)) (flag (p .stops .lineset) ∷ l))))
+
+module _ (p : Printer) (m : List ℕ) (long : length m ≡ registerCount) where
+  abbrev front-stored : List ℕ → List ℕ
+  front-stored l = set (settingsStored (p .settings) (stores (placeCells (p .place)) l)) 37 (flag (p .stops .lineset))
+
+  front-words : front-stored m ≡ front (staleIn m) p (drop 38 m)
+  unfolding firsts settingsStored
+  front-words = ap front-stored (listed 38 m (omega arith))
+
+  regroup : (h a b c : List ℕ) → (((h ++ a) ++ b) ++ c) ++ [] ≡ h ++ (a ++ (b ++ (c ++ [])))
+  regroup h a b c = simp append-assoc
+
+  pub packed-words : StopsTyped (p .stops)
+      → stopsStored (p .stops) (settingsStored (p .settings) (stores (placeCells (p .place)) m)) ≡ words (staleIn m) p
+  unfolding stopsStored laid
+  packed-words t =
+      let a = p .stops .columns in
+      let b = p .stops .lines in
+      let c = p .stops .gathered in
+      let h = front (staleIn m) p [] in
+      let n : length (drop 38 m) ≡ 99 = simp length-drop (omega arith) in
+      let r : List ℕ = drop (suc (length (a .stops))) (drop 38 m) in
+      let s : List ℕ = drop (suc (length (b .stops))) r in
+      let hr : length r ≡ 66 = simp length-drop (omega (arith, t .columns)) in
+      let hs : length s ≡ 33 = simp length-drop (omega (arith, t .columns, t .lines)) in
+      let ha : length (h ++ both a) ≡ 71 = simp length-append (omega (arith, t .columns)) in
+      let hb : length ((h ++ both a) ++ both b) ≡ 104 = simp length-append (omega (arith, t .columns, t .lines)) in
+      let e1 : listStored 38 a (h ++ drop 38 m) ≡ (h ++ both a) ++ r = list-next h (drop 38 m) a 38 refl (omega arith) in
+      let e2 : listStored 71 b ((h ++ both a) ++ r) ≡ ((h ++ both a) ++ both b) ++ s =
+      list-next (h ++ both a) r b 71 ha (omega arith) in
+      let e3 : listStored 104 c (((h ++ both a) ++ both b) ++ s) ≡ (((h ++ both a) ++ both b) ++ both c) ++ drop (suc (length (c .stops))) s =
+      list-next ((h ++ both a) ++ both b) s c 104 hb (omega arith) in
+      let z : drop (suc (length (c .stops))) s ≡ [] =
+      drop-of-length-le s {i = suc (length (c .stops))} (omega (arith, t .gathered)) in
+      ap (λ (l : List ℕ). listStored 104 c (listStored 71 b (listStored 38 a l))) front-words
+      ∙ ap (λ (l : List ℕ). listStored 104 c (listStored 71 b l)) e1
+      ∙ ap (λ (l : List ℕ). listStored 104 c l) e2
+      ∙ e3
+      ∙ rw z (regroup h (both a) (both b) (both c))

@@ -1,0 +1,118 @@
+-- What is waited for as numbers and back, and what its types say of what numbers are read as.
+use Prim.Native.Nat.{ℕ, _+_, _*_, _%_, _≤_}
+use mathlib.Core.Path.{_≡_, refl}
+use mathlib.Core.Bool.{Bool, false}
+use mathlib.Core.List.{List, [], _∷_}
+use native.Mathlib.Omega.{arith}
+use lib.Dec.{eqb}
+use Rattle.printer.specs.Tools.{Bytes, Each, lookup}
+use Rattle.printer.specs.Accepted.{waitingTyped}
+use Rattle.printer.specs.Codes.{begunBy}
+use Rattle.printer.specs.Framing.{frame}
+use Rattle.printer.specs.Steps.{nextIn}
+use Rattle.printer.specs.declared.commands.Begun.{Begun}
+use Rattle.printer.specs.declared.commands.Frame.{Frame}
+use Rattle.printer.specs.declared.commands.Tabs.{Tabs}
+use Rattle.printer.specs.declared.commands.Two.{Two}
+use Rattle.printer.specs.declared.commands.Waiting.{Waiting}
+use Rattle.printer.proofs.Choices.{pick-elim}
+use Rattle.printer.proofs.Frames.{Framed, begins as framed-begins, single, opensList, opensImage, rests, afterEscape, framed-second}
+use Rattle.printer.proofs.Listed.{every-listed, two-byte}
+use Rattle.registers.specs.declared.pending.Pending.{Pending}
+use Rattle.registers.specs.State.{pending, pendingBytes, pendingOf, begins, argued, resumed, imaged, kinds, waitingOf, pendingIn, imageTyped}
+use Rattle.registers.proofs.Laws.{byte-back}
+
+-- reading its numbers gives it back
+
+begun-back : (w : Begun) → waitingOf (pendingBytes (begunBy w)) ≡ Waiting.Arguments w
+unfolding lookup kinds frame
+begun-back (Begun.One c) = rw (every-listed .one c)
+begun-back Begun.PageLength = rw (every-listed .page)
+begun-back Begun.PageInches = rw (every-listed .page)
+begun-back (Begun.FirstOf c) = rw (every-listed .two c)
+begun-back (Begun.SecondOf c a) = rw (every-listed .two c)
+
+pub waiting-back : (w : Waiting) → waitingOf (pendingOf w) ≡ w
+unfolding lookup kinds frame
+waiting-back Waiting.Nothing = refl
+waiting-back Waiting.SecondByte = refl
+waiting-back (Waiting.Arguments w) = begun-back w
+waiting-back (Waiting.StopList t b) = rw (every-listed .list t)
+waiting-back (Waiting.ImageData d n) = rw (every-listed .two (Two.Image d))
+
+-- its numbers are such as their types hold
+
+abbrev narrow : Pending → Pending
+narrow v = pending (v .kind) (v .command % 256) (v .argument % 256) (v .columns % 65536)
+
+begun-narrow : (w : Begun) → Bytes (begunBy w) → narrow (pendingBytes (begunBy w)) ≡ pendingBytes (begunBy w)
+begun-narrow (Begun.One c) h = rw (byte-back (h .0))
+begun-narrow Begun.PageLength h = refl
+begun-narrow Begun.PageInches h = refl
+begun-narrow (Begun.FirstOf c) h = rw (byte-back (h .0))
+begun-narrow (Begun.SecondOf c a) h = rw (byte-back (h .0), byte-back (h .1 .0))
+
+pub pending-narrow : (w : Waiting) → waitingTyped w → imageTyped w → narrow (pendingOf w) ≡ pendingOf w
+pending-narrow Waiting.Nothing h k = refl
+pending-narrow Waiting.SecondByte h k = refl
+pending-narrow (Waiting.Arguments w) h k = begun-narrow w h
+pending-narrow (Waiting.StopList Tabs.Horizontal b) h k = rw (byte-back h)
+pending-narrow (Waiting.StopList Tabs.Vertical b) h k = rw (byte-back h)
+pending-narrow (Waiting.ImageData d n) h k =
+    let e : n % 65536 ≡ n = omega arith in
+    rw (e, byte-back (two-byte (Two.Image d)))
+
+-- what numbers are read as has what its types say
+
+as-bytes : {a l : List ℕ} → a ≡ l → Bytes l → Bytes a
+as-bytes e h = rw e h
+
+typed-framed : (l : List ℕ) (f : Frame) → Bytes l → Framed false l f → waitingTyped (nextIn f)
+typed-framed l (Frame.Waits w) h (framed-begins e) = as-bytes e h
+typed-framed l (Frame.Whole c w) h (single e k n i rests) = tt
+typed-framed l (Frame.Whole c w) h (single e k n i afterEscape) = tt
+typed-framed l (Frame.Whole c w) h (opensList e) = omega arith
+typed-framed l (Frame.Whole c w) h (opensImage {d} {a} {b} e) =
+    pick-elim waitingTyped (eqb (a + 256 * b) 0) (λ _. tt) (λ _. tt)
+
+typed-argued : (w : Begun) (a : ℕ) → a ≤ 255 → Bytes (begunBy w) → waitingTyped (argued w a)
+typed-argued (Begun.One c) a h t = tt
+typed-argued Begun.PageLength a h t = (omega arith, (omega arith, tt))
+typed-argued Begun.PageInches a h t = tt
+typed-argued (Begun.FirstOf c) a h t = (t .0, (h, tt))
+typed-argued (Begun.SecondOf c b) a h t = tt
+
+typed-resumed : (w : Waiting) (b : ℕ) → b ≤ 255 → waitingTyped w → waitingTyped (resumed w b)
+typed-resumed Waiting.Nothing b h t = tt
+typed-resumed Waiting.SecondByte b h t = tt
+typed-resumed (Waiting.Arguments w) b h t = typed-argued w b h t
+typed-resumed (Waiting.StopList k before) b h t = h
+typed-resumed (Waiting.ImageData d n) b h t = tt
+
+typed-imaged : (w : Waiting) (n : ℕ) → waitingTyped (imaged w n)
+typed-imaged Waiting.Nothing n = tt
+typed-imaged Waiting.SecondByte n = tt
+typed-imaged (Waiting.Arguments (Begun.One c)) n = tt
+typed-imaged (Waiting.Arguments Begun.PageLength) n = tt
+typed-imaged (Waiting.Arguments Begun.PageInches) n = tt
+typed-imaged (Waiting.Arguments (Begun.FirstOf (Two.Move m))) n = tt
+typed-imaged (Waiting.Arguments (Begun.FirstOf (Two.Image d))) n = tt
+typed-imaged (Waiting.Arguments (Begun.SecondOf c a)) n = tt
+typed-imaged (Waiting.StopList k b) n = tt
+typed-imaged (Waiting.ImageData d m) n = tt
+
+-- what a table tells has what each of its entries has
+told : (l : List (ℕ × Waiting)) (d : Waiting) (b : ℕ) → waitingTyped d → Each (λ (e : ℕ × Waiting). waitingTyped (e .1)) l
+    → waitingTyped (lookup l d b)
+unfolding lookup
+told [] d b h k = h
+told (e ∷ l) d b h k = pick-elim waitingTyped (eqb b (e .0)) (λ _. k .0) (λ _. told l d b h (k .1))
+
+pub waiting-typed : (m : List ℕ) → waitingTyped (waitingOf (pendingIn m))
+unfolding kinds frame
+waiting-typed m =
+    let v = pendingIn m in
+    let begun = begins (v .command) in
+    let t : waitingTyped begun = typed-framed _ _ (omega arith, tt) (framed-second false (v .command)) in
+    let after : waitingTyped (resumed begun (v .argument)) = typed-resumed begun (v .argument) (omega arith) t in
+    told (kinds begun v) Waiting.Nothing (v .kind) tt (tt, (tt, (t, (after, (after, (typed-imaged begun (v .columns), tt))))))

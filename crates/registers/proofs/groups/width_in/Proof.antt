@@ -1,0 +1,13 @@
+-- The parts are those that the callees ensure.
+use borrow.Author.Needs.{needs}
+use Rattle.registers.proofs.groups.width_in.Statement.{statement}
+use Rattle.registers.proofs.groups.width_in.Tie as tie
+
+returns : tie.Need-returns
+returns c = cc
+
+pub width-in-spec : {M : Type 1} → statement M
+width-in-spec =
+    tie.close
+    (tie.spec (λ c. search needs) (λ c κs. search needs) (λ c. search needs) (λ c. search needs) (λ c. search needs)
+    (λ c. search needs) (λ c. search needs) (λ c. search needs) returns)

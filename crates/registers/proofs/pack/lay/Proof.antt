@@ -1,0 +1,47 @@
+-- The loop over the stops: what is stored is laid over the registers.
+use Prim.Native.Nat.{_-_, _≤_}
+use mathlib.Core.Path.{_≡_}
+use native.Mathlib.Omega.{arith}
+use borrow.Author.Needs.{needs}
+use denote.Ref.{now}
+use lib.ListN.{length}
+use Rattle.registers.proofs.Laying.{Laid, laid-none, laid-more, laid-all}
+use Rattle.registers.proofs.pack.lay.Statement.{statement}
+use Rattle.registers.proofs.pack.lay.Tie as tie
+
+abbrev Inv-loop : tie.InvT-loop
+Inv-loop m₀ from stops n i₀ m i = (i ≤ 32) × Laid from stops m₀ m i
+
+abbrev μ-loop : tie.MeasureT-loop
+μ-loop m₀ from stops n i₀ m i = 32 - i
+
+loop-holds : tie.Need-loop-holds Inv-loop μ-loop
+loop-holds c =
+    let s = c .before .before in
+    let e : length (s .args .t3) ≡ 32 = search needs in
+    (omega arith, laid-none (s .args .from) (s .args .t3) (now (s .args .m)) (omega (arith, c .whole .ensures, s .pre)))
+
+loop-again : tie.Need-loop-again Inv-loop μ-loop
+loop-again c =
+    let l = c .before in
+    let w = l .before in
+    let s = w .before .before in
+    let e : length (s .args .t3) ≡ 32 = search needs in (
+      omega arith,
+      laid-more (s .args .from) (s .args .t3) (now (s .args .m)) (omega (arith, w .whole .ensures, s .pre)) (omega arith) (l .loop .inv .1),
+    )
+
+returns : tie.Need-returns Inv-loop μ-loop
+returns c =
+    let l = c .before in
+    let w = l .before in
+    let s = w .before .before in
+    let e : length (s .args .t3) ≡ 32 = search needs in
+    let k : l .loop .i ≡ length (s .args .t3) = omega arith in
+    laid-all (s .args .from) (s .args .t3) (now (s .args .m)) (omega (arith, w .whole .ensures, s .pre)) (l .loop .inv .1) k
+
+pub lay-spec : {M : Type 1} → statement M
+lay-spec =
+    tie.close
+    (tie.spec Inv-loop μ-loop (λ c κs. search needs) loop-holds (λ c. search needs) (λ c. search needs) (λ c. search needs)
+    (λ c. search needs) (λ c. search needs) (λ c. search needs) (λ c. search needs) loop-again returns)

@@ -1,0 +1,12 @@
+-- Each register by what its number ensures.
+use borrow.Author.Needs.{needs}
+use Rattle.registers.proofs.stores.store_printing.Statement.{statement}
+use Rattle.registers.proofs.stores.store_printing.Tie as tie
+
+returns : tie.Need-returns
+returns c = cc
+
+pub store-printing-spec : {M : Type 1} → statement M
+store-printing-spec =
+    tie.close
+    (tie.spec (λ c κs. search needs) (λ c. search needs) (λ c κs. search needs) (λ c. search needs) returns)

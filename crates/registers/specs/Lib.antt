@@ -1,0 +1,7 @@
+pub mod Layout
+pub mod Stores
+pub mod Groups
+pub mod Keeping
+pub mod Held
+pub mod State
+pub mod Same

@@ -1,0 +1,127 @@
+-- The state as registers and back: what is waited for as numbers, the printer that registers are read as, and whether they are
+-- those of a printer within its bounds.
+use Prim.Native.Nat.{ℕ, _%_, _≤_}
+use mathlib.Core.Bool.{Bool, true, false, _&&_}
+use mathlib.Core.List.{List, [], _∷_}
+use lib.Dec.{eqb}
+use lib.ListN.{getD}
+use Rattle.printer.specs.Accepted.{Typed}
+use Rattle.printer.specs.Bounds.{accepted}
+use Rattle.printer.specs.Codes.{twoCode, secondCode, begunBy}
+use Rattle.printer.specs.Framing.{frame}
+use Rattle.printer.specs.Steps.{nextIn}
+use Rattle.printer.specs.Tools.{lookup}
+use Rattle.printer.specs.declared.commands.Begun.{Begun}
+use Rattle.printer.specs.declared.commands.Second.{Second}
+use Rattle.printer.specs.declared.commands.Two.{Two}
+use Rattle.printer.specs.declared.commands.Waiting.{Waiting}
+use Rattle.printer.specs.declared.state.Printer.{Printer}
+use Rattle.registers.specs.declared.pending.Pending.{Pending}
+use Rattle.registers.specs.Layout.{words}
+use Rattle.registers.specs.Groups.{placeIn, settingsIn, stopsIn}
+use Rattle.registers.specs.Held.{Small}
+
+abbrev pub pending : (kind command argument columns : ℕ) → Pending
+pending kind command argument columns =
+    record { kind = kind; command = command; argument = argument; columns = columns }
+
+-- the kinds, 0 to 5; what a kind does not use is 0
+
+-- an escape by its bytes so far
+abbrev pub pendingBytes : List ℕ → Pending
+pendingBytes [] = pending 1 0 0 0
+pendingBytes (code ∷ []) = pending 2 code 0 0
+pendingBytes (code ∷ argument ∷ l) = pending 3 code argument 0
+
+abbrev pub pendingOf : Waiting → Pending
+pendingOf Waiting.Nothing = pending 0 0 0 0
+pendingOf Waiting.SecondByte = pendingBytes []
+pendingOf (Waiting.Arguments w) = pendingBytes (begunBy w)
+pendingOf (Waiting.StopList t b) = pending 4 (secondCode (Second.List t)) b 0
+pendingOf (Waiting.ImageData d n) = pending 5 (twoCode (Two.Image d)) 0 n
+
+-- the registers of a printer: the one law between them
+abbrev pub registersOf : Printer → List ℕ
+registersOf p = words (pendingOf (p .waiting)) p
+
+-- what an escape's second byte begins; whether 80h to 9Fh print makes no difference in an escape
+abbrev pub begins : ℕ → Waiting
+begins code = nextIn (frame false Waiting.SecondByte code)
+
+-- an escape after its first argument, if another follows; after ESC C that is so for 0 alone
+abbrev pub argued : Begun → ℕ → Waiting
+argued (Begun.One c) a = Waiting.Nothing
+argued Begun.PageLength a = Waiting.Arguments Begun.PageInches
+argued Begun.PageInches a = Waiting.Nothing
+argued (Begun.FirstOf c) a = Waiting.Arguments (Begun.SecondOf c a)
+argued (Begun.SecondOf c b) a = Waiting.Nothing
+
+-- what was begun, after a byte of it: an argument, or a byte of a stop list
+abbrev pub resumed : Waiting → ℕ → Waiting
+resumed Waiting.Nothing b = Waiting.Nothing
+resumed Waiting.SecondByte b = Waiting.Nothing
+resumed (Waiting.Arguments w) b = argued w b
+resumed (Waiting.StopList t before) b = Waiting.StopList t b
+resumed (Waiting.ImageData d n) b = Waiting.Nothing
+
+-- an image begun, with so many columns of data to come
+abbrev pub imaged : Waiting → ℕ → Waiting
+imaged Waiting.Nothing n = Waiting.Nothing
+imaged Waiting.SecondByte n = Waiting.Nothing
+imaged (Waiting.Arguments (Begun.One c)) n = Waiting.Nothing
+imaged (Waiting.Arguments Begun.PageLength) n = Waiting.Nothing
+imaged (Waiting.Arguments Begun.PageInches) n = Waiting.Nothing
+imaged (Waiting.Arguments (Begun.FirstOf (Two.Move m))) n = Waiting.Nothing
+imaged (Waiting.Arguments (Begun.FirstOf (Two.Image d))) n = Waiting.ImageData d n
+imaged (Waiting.Arguments (Begun.SecondOf c a)) n = Waiting.Nothing
+imaged (Waiting.StopList t b) n = Waiting.Nothing
+imaged (Waiting.ImageData d m) n = Waiting.Nothing
+
+-- what each kind is, by what the escape's second byte begins; numbers that no kind has so are refused, since what they are
+-- read as has others
+unfoldable pub kinds : Waiting → Pending → List (ℕ × Waiting)
+kinds begun v =
+    (0, Waiting.Nothing) ∷
+    (1, Waiting.SecondByte) ∷
+    (2, begun) ∷
+    (3, resumed begun (v .argument)) ∷
+    (4, resumed begun (v .argument)) ∷
+    (5, imaged begun (v .columns)) ∷
+    []
+
+abbrev pub waitingOf : Pending → Waiting
+waitingOf v = lookup (kinds (begins (v .command)) v) Waiting.Nothing (v .kind)
+
+-- the numbers as the types of what is waited for hold them
+abbrev pub pendingIn : List ℕ → Pending
+pendingIn m = pending (getD m 0 0) (getD m 1 0 % 256) (getD m 2 0 % 256) (getD m 3 0 % 65536)
+
+-- the printer that registers are read as: the one way back
+unfoldable pub printerIn : List ℕ → Printer
+printerIn m =
+    record { settings = settingsIn m; place = placeIn m; stops = stopsIn m; waiting = waitingOf (pendingIn m) }
+
+-- two lists of numbers are the same
+unfoldable pub sameList : List ℕ → List ℕ → Bool
+sameList [] [] = true
+sameList [] (y ∷ ys) = false
+sameList (x ∷ xs) [] = false
+sameList (x ∷ xs) (y ∷ ys) = eqb x y && sameList xs ys
+
+-- the registers are those of the printer that they are read as, and it is within its bounds: the test that answer 4 goes by
+unfoldable pub acceptedIn : List ℕ → Bool
+acceptedIn m = sameList m (registersOf (printerIn m)) && accepted (printerIn m)
+
+-- What every printer by value has: bytes are below 256, image columns below 65,536, and lists of stops have their room.
+
+abbrev pub imageTyped : Waiting → Type 0
+imageTyped Waiting.Nothing = Unit
+imageTyped Waiting.SecondByte = Unit
+imageTyped (Waiting.Arguments w) = Unit
+imageTyped (Waiting.StopList t b) = Unit
+imageTyped (Waiting.ImageData d n) = n ≤ 65535
+
+pub record Plain (p : Printer) : Type 0 where
+  pub typed : Typed p
+  pub small : Small (p .settings)
+  pub image : imageTyped (p .waiting)

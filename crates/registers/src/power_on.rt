@@ -1,0 +1,71 @@
+// The state at power-on.
+use crate::ACROSS;
+use crate::COLUMN_COUNT;
+use crate::COUNT;
+use crate::LINE;
+use crate::PAGE;
+use crate::PITCH;
+use crate::RIGHT;
+use crate::UPPER_PRINTS;
+use crate::derived::keep_widths;
+use crate::stores::store_setup;
+use crate::stores::whole;
+use printer::settings::Setup;
+use printer::state::Printer;
+ghost use mathlib.Core.Path.{_≡_};
+ghost use mathlib.Core.List.{_++_};
+ghost use lib.ListN.{take, replicate};
+ghost use Rattle.printer.specs.PowerOn.{powerOn};
+ghost use Rattle.registers.specs.Layout.{words};
+ghost use Rattle.registers.specs.Stores.{stores, staleIn, powerOnCells, columnCells};
+
+// All registers but those of what is waited for are 0.
+fn clear(m: &mut [u32; COUNT])
+    ensures { λ _. ⌜ now (m .exit) ≡ take 4 (now (m .entry)) ++ replicate 133 0 ⌝ }
+{
+    let n = whole(&*m);
+    let mut i: usize = ACROSS;
+    while i < COUNT {
+        m[i] = 0;
+        i += 1;
+    }
+}
+
+// The settings that are not 0, but for those of the start.
+fn store_settings(m: &mut [u32; COUNT])
+    ensures { λ _. ⌜ now (m .exit) ≡ stores powerOnCells (now (m .entry)) ⌝ }
+{
+    m[RIGHT] = Printer::WIDTH.0;
+    m[PAGE] = Printer::POWER_ON_PAGE.0;
+    m[LINE] = Printer::POWER_ON_LINE.0;
+    m[PITCH] = 10;
+    m[UPPER_PRINTS] = 1;
+}
+
+// Horizontal stops at columns 8, 16 .. 72.
+fn store_columns(m: &mut [u32; COUNT])
+    ensures { λ _. ⌜ now (m .exit) ≡ stores columnCells (now (m .entry)) ⌝ }
+{
+    m[COLUMN_COUNT] = 9;
+    m[39] = 8;
+    m[40] = 16;
+    m[41] = 24;
+    m[42] = 32;
+    m[43] = 40;
+    m[44] = 48;
+    m[45] = 56;
+    m[46] = 64;
+    m[47] = 72;
+}
+
+// Stores it over all but what is waited for.
+pub fn power_on(m: &mut [u32; COUNT], setup: Setup)
+    ensures { λ _. ⌜ now (m .exit) ≡ words (staleIn (now (m .entry))) (powerOn setup) ⌝ }
+{
+    let n = whole(&*m);
+    clear(&mut *m);
+    store_setup(&mut *m, setup);
+    store_settings(&mut *m);
+    store_columns(&mut *m);
+    keep_widths(m);
+}

@@ -1,4 +1,0 @@
-pub mod Writes
-pub mod Runs
-pub mod Placing
-pub mod Taking
