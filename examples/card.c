@@ -1,76 +1,114 @@
 /*
- * Reads a slot card in pieces of five bytes and prints where RELEASED stands, and under which slot, for 300 dots and
- * for 203.
+ * Reads ESC/P from standard input in pieces of five bytes and shows the page as it stands at the end: its lines of
+ * letters, how many bytes of images are on it, and where RELEASED stands, with the slot number above it.
+ *
+ *     card [DOTS] < INPUT     at 300 dots to the inch, or 203
  */
 #include "escp.h"
 
 #include <stdbool.h>
 #include <stdio.h>
-#include <string.h>
+#include <stdlib.h>
 
-enum { PIECE = 5, MOST_LETTERS = 200 };
+enum { PIECE = 5, MOST = 1000 };
 
-static const char card[] = "\x1B" "D\x0A\x14\x1E\x28\x32\x3C\x46\0"
-                           "SLOT\t1\t2\t3\t4\t5\t6\t7\r\n"
-                           "STATE\tLOCKED\tLOCKED\tLOCKED\tRELEASED\tLOCKED\tLOCKED\tLOCKED\r\n\f";
 static const char word[] = "RELEASED";
 
-/* The letters of a card and their places in dots. */
-typedef struct letters {
-    char byte[MOST_LETTERS];
-    unsigned column[MOST_LETTERS];
-    unsigned row[MOST_LETTERS];
+/* A page: its letters and its image bytes, in the order in which they were printed. */
+typedef struct page {
+    escp_record placed[MOST];
     size_t count;
-} letters;
+    size_t line; /* as many of them are there for good: a CL voids only what came after */
+} page;
 
-static void add_records(letters *to, const uint8_t *records, size_t length)
+/* What a record does to the page. False if there is no room on it. */
+static bool take_record(page *page, const escp_record *record)
 {
-    for (size_t at = 0; at < length && to->count < MOST_LETTERS; at += ESCP_RECORD_SIZE) {
-        const uint8_t *record = records + at;
-        if (record[0] == 'T' && record[1] == 'X') {
-            to->column[to->count] = record[2] + 256u * record[3];
-            to->row[to->count] = record[4] + 256u * record[5];
-            to->byte[to->count] = (char)record[6];
-            to->count++;
-        }
+    switch (record->mark) {
+    case ESCP_TX:
+    case ESCP_IM:
+        if (page->count == MOST)
+            return false;
+        page->placed[page->count++] = *record;
+        break;
+    case ESCP_LN:
+        /* A page turned, or a new top: another sheet. */
+        if (record->pages > 0)
+            page->count = 0;
+        page->line = page->count;
+        break;
+    case ESCP_CL:
+        page->count = page->line;
+        break;
     }
+    return true;
 }
 
-/* Reads the card at so many dots to the inch. */
-static bool read_card(uint32_t dots, letters *to)
+/* Reads a piece of input onto the page. */
+static bool take_piece(page *page, escp_state *state, const uint8_t *input, size_t length)
 {
-    const uint8_t *input = (const uint8_t *)card;
-    size_t left = sizeof card - 1;
-    escp_settings settings = {.resolution = dots};
-    escp_state state;
-    escp_counts counts;
     uint8_t out[PIECE * ESCP_ROOM];
-
-    to->count = 0;
-    if (escp_start(&state, &settings) != ESCP_INPUT_USED)
+    escp_counts counts;
+    if (escp_read(state, input, length, length, out, sizeof out, &counts) != ESCP_INPUT_USED)
         return false;
-    while (left > 0) {
-        size_t piece = left < PIECE ? left : PIECE;
-        if (escp_read(&state, input, piece, piece, out, sizeof out, &counts) != ESCP_INPUT_USED)
+    for (size_t at = 0; at < counts.written; at += ESCP_RECORD_SIZE) {
+        escp_record record;
+        escp_fill_record(&record, out + at);
+        if (!take_record(page, &record))
             return false;
-        add_records(to, out, counts.written);
-        input += piece;
-        left -= piece;
+    }
+    return true;
+}
+
+/* Whether a letter stands apart from the one before it, by more than a dot that rounding may give. */
+static bool stands_apart(const escp_record *before, const escp_record *letter, uint32_t dots)
+{
+    return letter->column * 3600u > before->column * 3600u + before->advance * dots + 3600u;
+}
+
+/* Prints the lines of letters, and how many image bytes there are. */
+static void print_lines(const page *page, uint32_t dots)
+{
+    const escp_record *before = NULL;
+    size_t images = 0;
+    for (size_t at = 0; at < page->count; at++) {
+        const escp_record *placed = &page->placed[at];
+        if (placed->mark != ESCP_TX) {
+            images++;
+            continue;
+        }
+        if (before == NULL || before->row != placed->row)
+            printf("%srow %u: ", before == NULL ? "" : "\n", (unsigned)placed->row);
+        else if (stands_apart(before, placed, dots))
+            putchar(' ');
+        putchar(placed->byte);
+        before = placed;
+    }
+    printf("%simage bytes: %zu\n", before == NULL ? "" : "\n", images);
+}
+
+/* Whether the word's letters stand here, one after the other. */
+static bool is_word(const page *page, size_t at)
+{
+    for (size_t letter = 0; word[letter] != '\0'; letter++, at++) {
+        if (at >= page->count || page->placed[at].mark != ESCP_TX || page->placed[at].byte != word[letter])
+            return false;
     }
     return true;
 }
 
 /* Prints where the word stands, and the slot number above its first letter. */
-static bool print_released(const letters *from)
+static bool print_released(const page *page)
 {
-    size_t length = sizeof word - 1;
-    for (size_t at = 0; at + length <= from->count; at++) {
-        if (memcmp(from->byte + at, word, length) != 0)
+    for (size_t at = 0; at < page->count; at++) {
+        const escp_record *first = &page->placed[at];
+        if (!is_word(page, at))
             continue;
         for (size_t above = at; above-- > 0;) {
-            if (from->column[above] == from->column[at] && from->row[above] < from->row[at]) {
-                printf("RELEASED at column %u, row %u, under slot %c\n", from->column[at], from->row[at],
-                       from->byte[above]);
+            const escp_record *slot = &page->placed[above];
+            if (slot->mark == ESCP_TX && slot->column == first->column && slot->row < first->row) {
+                printf("%s at column %u, row %u, under slot %c\n", word, (unsigned)first->column,
+                       (unsigned)first->row, slot->byte);
                 return true;
             }
         }
@@ -78,15 +116,30 @@ static bool print_released(const letters *from)
     return false;
 }
 
-int main(void)
+int main(int argc, char **argv)
 {
-    static const uint32_t dots[] = {300, 203};
-    static letters found;
-    for (size_t at = 0; at < sizeof dots / sizeof dots[0]; at++) {
-        if (!read_card(dots[at], &found) || !print_released(&found)) {
-            fputs("card: RELEASED is not on the card\n", stderr);
+    static page shown;
+    escp_settings settings = {300, 0};
+    escp_state state;
+    uint8_t input[PIECE];
+    size_t length;
+
+    if (argc > 1)
+        settings.resolution = (uint32_t)strtoul(argv[1], NULL, 10);
+    if (escp_start(&state, &settings) != ESCP_INPUT_USED) {
+        fputs("card: 300 or 203 dots to the inch\n", stderr);
+        return 1;
+    }
+    while ((length = fread(input, 1, PIECE, stdin)) > 0) {
+        if (!take_piece(&shown, &state, input, length)) {
+            fputs("card: more than a page holds\n", stderr);
             return 1;
         }
+    }
+    print_lines(&shown, settings.resolution);
+    if (!print_released(&shown)) {
+        fprintf(stderr, "card: %s is not on the card\n", word);
+        return 1;
     }
     return 0;
 }

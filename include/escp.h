@@ -3,13 +3,20 @@
  *
  * The library is target/staticlib/libierbulosc.a, made by `rt staticlib ierbulosc`, for x86-64 Linux. Its functions keep
  * nothing between calls, allocate nothing and always return. What they do is proved in crates/ierbulosc and the
- * crates below it; that this header says the same as crates/ierbulosc/src is for its reader to compare.
+ * crates below it. A test (rust/tests/header.rs) holds the declarations here against the exported functions and the
+ * registers' layout in Rattle; that the words here say the same as the proofs is for their reader to compare.
  *
- *     escp_settings settings = {.resolution = 300};
+ *     escp_settings settings = {300, 0};
  *     escp_state state;
  *     escp_counts counts;
  *     escp_start(&state, &settings);
- *     answer = escp_read(&state, input, input_length, SIZE_MAX, output, output_length, &counts);
+ *     answer = escp_read(&state, input, input_length, SIZE_MAX, out, out_length, &counts);
+ *     for (at = 0; at < counts.written; at += ESCP_RECORD_SIZE) {
+ *         escp_record record;
+ *         escp_fill_record(&record, out + at);
+ *         if (record.mark == ESCP_TX)
+ *             ... the letter record.byte at record.column, record.row ...
+ *     }
  *
  * Input may come in pieces of any length, cut anywhere, even inside a command: the records are those of the whole.
  */
@@ -32,102 +39,42 @@ enum {
     ESCP_STATE_REFUSED = 4     /* the state is none that this library leaves */
 };
 
+/* Sizes. */
 enum {
     ESCP_RECORD_SIZE = 14,            /* the bytes of a record */
     ESCP_ROOM = 2 * ESCP_RECORD_SIZE, /* must be left in the output to read a byte, which writes at most 2 records */
+    ESCP_REGISTERS = 137,             /* the numbers of a state */
     ESCP_TAB_STOPS = 32,              /* the room of a list of tab stops */
     ESCP_COLUMNS = 32,                /* the most horizontal tab stops */
     ESCP_LINES = 16                   /* the most vertical tab stops */
 };
 
-/* What a start is asked for. */
+/*
+ * What a start is asked for. Any numbers whatever may be passed. (A struct, so that a setting can be added without
+ * another call: it is then appended, and 0 means that it is as before.)
+ */
 typedef struct escp_settings {
     uint32_t resolution; /* dots to the inch: 300, or 203 (203 across and 200 down) */
     uint32_t auto_feed;  /* any number but 0: CR feeds a line */
 } escp_settings;
 
 /*
- * The state of the printer. It is the caller's, to keep, copy, store or read; the library has no other memory.
- * Lengths are in units of 1/3600 inch. A flag is 0 or 1. Padding between fields is never looked at, and what it holds
- * after a call is not said: compare states by their fields.
+ * The state of the printer: ESCP_REGISTERS numbers of 32 bits, without padding. It is the caller's, to keep, copy,
+ * compare, store or read; the library has no other memory.
  *
- * Any bytes whatever may stand in a state that is passed: escp_read tests it first, and refuses it with answer 4 unless
- * every field has a value given here and the whole is within the printer's bounds.
+ * Lengths are in units of 1/3600 inch. A flag is 0 or 1. The numbers below are those that this library leaves. Any
+ * others may stand in a state that is passed: escp_read tests it first, and refuses it with answer 4, as it came, if a
+ * single one is not as said here.
  */
-
-/* The settings of the start, the print quality, and the upper codes. */
-typedef struct escp_setup {
-    uint16_t resolution;  /* 300 or 203 */
-    uint8_t auto_feed;    /* flag: CR feeds a line */
-    uint8_t draft;        /* flag: ESC x 0 */
-    uint8_t upper_prints; /* flag: 80h to 9Fh are letters (ESC 6) */
-} escp_setup;
-
-/* What the width of a letter depends on. */
-typedef struct escp_width {
-    uint8_t pitch;        /* letters of an inch: 10, 12 or 15 */
-    uint8_t spacing;      /* ESC SP, 0 to 127 */
-    uint8_t wide;         /* flag: ESC W 1 */
-    uint8_t wide_once;    /* flag: SO, to the end of the line */
-    uint8_t reduced;      /* flag: SI */
-    uint8_t proportional; /* flag: ESC p 1 */
-} escp_width;
-
-/* Emphasis and script; flags. */
-typedef struct escp_style {
-    uint8_t bold;
-    uint8_t double_strike;
-    uint8_t italic;
-    uint8_t underline;
-    uint8_t superscript;
-    uint8_t subscript;
-} escp_style;
-
-/* What else a letter's record shows. */
-typedef struct escp_face {
-    uint8_t font;          /* ESC k */
-    uint8_t country;       /* ESC R, 0 to 13 or 64 */
-    uint8_t outline;       /* ESC q, 0 to 3 */
-    uint8_t double_height; /* flag: ESC w 1 */
-    uint8_t italic_table;  /* flag: ESC t 0 */
-    uint8_t download;      /* flag: ESC % 1 */
-} escp_face;
-
-/* Margins, page length, perforation skip and line amount. */
-typedef struct escp_page {
-    uint32_t left;
-    uint32_t right;  /* above left, at most 28800 */
-    uint32_t length; /* 3600 to 79200 */
-    uint32_t skip;   /* length - skip, the edge, is at least 3600 */
-    uint32_t line;   /* at most 5100 */
-} escp_page;
-
-/* Where the next letter stands. */
-typedef struct escp_place {
-    uint32_t across; /* from the left of the paper; left to right */
-    uint32_t down;   /* from the top of the page; below the edge */
-} escp_place;
 
 /*
  * A list of tab stops, of which the first `count` are held, ascending strictly. Horizontal ones are columns, from 1 to
  * 255, and at most ESCP_COLUMNS. Vertical ones are distances from the top, from 1 to 79199, and at most ESCP_LINES.
- * Stops past `count` are not looked at.
- */
-typedef struct escp_tab_stops {
-    uint32_t stops[ESCP_TAB_STOPS];
-    uint32_t count;
-} escp_tab_stops;
-
-/*
- * The stops in force, and those of a list that has not ended: horizontal ones of ESC D, or vertical ones of ESC B. The
- * gathered ones are looked at only while such a list is waited for; the last of them is then not above the list byte
- * before, or for ESC B that byte times the line amount.
+ * Stops past `count` are not looked at, and may be any number.
  */
 typedef struct escp_stops {
-    escp_tab_stops columns;  /* horizontal, in force */
-    escp_tab_stops lines;    /* vertical, in force */
-    uint8_t line_set;        /* flag: vertical stops were set, though perhaps to none; 0: there are none */
-    escp_tab_stops gathered; /* of a list that has not ended */
+    uint32_t count;
+    uint32_t stops[ESCP_TAB_STOPS];
 } escp_stops;
 
 /* What is waited for. */
@@ -140,23 +87,72 @@ enum {
     ESCP_IMAGE_DATA = 5       /* image data */
 };
 
-/* Fields that a kind does not use are 0. */
-typedef struct escp_waiting {
-    uint8_t kind;     /* ESCP_NOTHING to ESCP_IMAGE_DATA */
-    uint8_t command;  /* kinds 2 to 5: the escape's second byte, as 41h for ESC A, 44h for ESC D, 4Bh for ESC K */
-    uint8_t argument; /* kind 3: the first argument; kind 4: the list byte before, 0 at the beginning */
-    uint16_t columns; /* kind 5: the image columns left, 1 to 65535 */
-} escp_waiting;
-
 typedef struct escp_state {
-    escp_setup setup;
-    escp_width width;
-    escp_style style;
-    escp_face face;
-    escp_page page;
-    escp_place place;
-    escp_stops stops;
-    escp_waiting waiting;
+    /*
+     * What is waited for. The command is an escape's second byte: of kind 2 one that takes arguments, as 41h for ESC A;
+     * of kind 3 one that takes two ($, \, K, L, Y or Z), or C, whose first argument is then 0; of kind 4 B or D; of kind
+     * 5 K, L, Y or Z. A number that the kind does not use is 0.
+     */
+    uint32_t kind;          /* ESCP_NOTHING to ESCP_IMAGE_DATA */
+    uint32_t command;       /* kinds 2 to 5 */
+    uint32_t argument;      /* kind 3: the first argument, 0 to 255; kind 4: the list byte before, 0 at the beginning */
+    uint32_t image_columns; /* kind 5: the image columns left, 1 to 65535 */
+
+    /* Where the next letter stands. */
+    uint32_t across; /* from the left of the paper; left to right, both included */
+    uint32_t down;   /* from the top of the page; below the edge, which is page - skip */
+
+    /* Margins, page length, perforation skip and line amount. */
+    uint32_t left;  /* below right */
+    uint32_t right; /* at most 28800 */
+    uint32_t page;  /* 3600 to 79200 */
+    uint32_t skip;  /* at most page - 3600 */
+    uint32_t line;  /* at most 5100 */
+
+    /* The settings of the start. */
+    uint32_t dots_across; /* dots to the inch across: 300 or 203 */
+    uint32_t dots_down;   /* down, by dots_across: 300 or 200 */
+    uint32_t auto_feed;   /* flag: CR feeds a line */
+
+    /* What the width of a letter depends on. */
+    uint32_t pitch;        /* letters of an inch: 10, 12 or 15 */
+    uint32_t spacing;      /* ESC SP, 0 to 127 */
+    uint32_t wide;         /* flag: ESC W 1 */
+    uint32_t wide_once;    /* flag: SO, to the end of the line */
+    uint32_t reduced;      /* flag: SI */
+    uint32_t proportional; /* flag: ESC p 1 */
+
+    /* How a letter looks. */
+    uint32_t bold;          /* flag: ESC E */
+    uint32_t double_strike; /* flag: ESC G */
+    uint32_t italic;        /* flag: ESC 4 */
+    uint32_t underline;     /* flag: ESC - 1 */
+    uint32_t superscript;   /* flag: ESC S 0 */
+    uint32_t subscript;     /* flag: ESC S 1 */
+    uint32_t font;          /* ESC k, 0 to 255 */
+    uint32_t country;       /* ESC R, 0 to 13 or 64 */
+    uint32_t outline;       /* ESC q, 0 to 3 */
+    uint32_t double_height; /* flag: ESC w 1 */
+    uint32_t italic_table;  /* flag: ESC t 0 */
+    uint32_t download;      /* flag: ESC % 1 */
+
+    uint32_t draft;        /* flag: ESC x 0 */
+    uint32_t upper_prints; /* flag: 80h to 9Fh are letters (ESC 6) */
+
+    /* What follows from the settings above, kept: it must agree with them. */
+    uint32_t style;        /* the style bits of a TX */
+    uint32_t advance;      /* the width of a letter */
+    uint32_t column_width; /* the width that stops and margins count in: 360 if proportional, else the advance */
+
+    /*
+     * Tab stops. The gathered ones, horizontal of ESC D or vertical of ESC B, are looked at only while such a list is
+     * waited for, and may be any numbers else; the last of them is then not above the list byte before, or for ESC B
+     * that byte times the line amount.
+     */
+    uint32_t lines_set;  /* flag: vertical stops were set, though perhaps to none; 0: there are none */
+    escp_stops columns;  /* horizontal, in force */
+    escp_stops lines;    /* vertical, in force */
+    escp_stops gathered; /* of a list that has not ended */
 } escp_state;
 
 /* How many bytes of input a call read, and how many bytes of output it wrote. */
@@ -180,34 +176,90 @@ uint8_t escp_start(escp_state *state, const escp_settings *settings);
  *
  * 0, 1, 2: *state is the new state; counts->read bytes of the input were read; counts->written bytes were written at the
  *    beginning of the output, a multiple of ESCP_RECORD_SIZE. To go on after 1 or 2, pass the rest of the input.
- * 4: *state is none that this library leaves: a field has a value that is not given above, or the whole is outside the
- *    printer's bounds. It is tested before all else. *state stays as it was, and both counts are 0.
+ * 4: *state is none that this library leaves: a number is not as given above. It is tested before all else. *state stays
+ *    as it was, and both counts are 0.
  * The output past counts->written stays as it was. *counts is written whatever the answer; what it held does not matter.
  *
- * Input and output may be empty (length 0). No pointer may be NULL, even of an empty one, and no two of *state, the
- * output and *counts may overlap, nor one of them with the input.
+ * Input and output may be empty (length 0). No pointer may be NULL, even of an empty one: nothing promises what happens
+ * then. No two of *state, the output and *counts may overlap, nor one of them with the input.
+ */
+uint8_t escp_read(escp_state *state, const uint8_t *input, size_t input_length, size_t allowance, uint8_t *out,
+                  size_t out_length, escp_counts *counts);
+
+/* The marks of records: two letters, the first in the low byte. */
+enum {
+    ESCP_TX = 0x5854, /* a letter: all fields but pages and reason */
+    ESCP_IM = 0x4D49, /* a byte of image data: column, row, byte, advance */
+    ESCP_LN = 0x4E4C, /* a line fed or a page turned: the new row, pages */
+    ESCP_CL = 0x4C43, /* the TX and IM since the last LN, CL or start are void */
+    ESCP_NO = 0x4F4E  /* what was passed over: byte, reason */
+};
+
+/* The pages of an LN that are none: the page begins anew, at its top (ESC C, ESC @). */
+enum { ESCP_NEW_TOP = 255 };
+
+/* The reasons of a NO. */
+enum {
+    ESCP_UNLISTED = 1,    /* no control byte or escape that is listed */
+    ESCP_NOT_ALLOWED = 2, /* an argument or a setting that is not allowed */
+    ESCP_PAST_LIMITS = 3, /* past margin, page or stop limits */
+    ESCP_NO_FIT = 4,      /* a letter or an image column that does not fit */
+    ESCP_NO_STOP = 5      /* no stop to the right */
+};
+
+/*
+ * A record by its fields. Those that its mark does not name are 0.
  *
- * A record is ESCP_RECORD_SIZE bytes, numbers of two bytes low byte first:
- *     0  2  the mark, two letters
- *     2  2  dot column
- *     4  2  dot row
- *     6  1  byte
- *     7  1  font
- *     8  2  style
- *    10  1  country
- *    11  1  zero
- *    12  2  advance, in units
- * TX is a letter, with all fields. IM is a byte of image data, with column, row, byte and advance. LN is a line fed or a
- * page turned: the new row, and in byte the pages turned, or 255 for a new top. CL: the TX and IM since the last LN, CL or
- * start are void. NO is what was passed over: in byte the letter, image byte or list byte, else the control byte or the
- * escape's second byte, as received; in style the reason: 1 unlisted; 2 argument or setting not allowed; 3 past margin,
- * page or stop limits; 4 letter or image column does not fit; 5 no stop to the right.
- * Fields that are not named are 0.
+ * The byte of a NO is the letter, image byte or list byte that was passed over, else the control byte or the escape's
+ * second byte, as received.
+ *
  * Style bits, from the lowest: bold, double strike, italic, underline, superscript, subscript, double width, double
  * height, two bits of the ESC q number, proportional, reduced, italic code table, download set.
  */
-uint8_t escp_read(escp_state *state, const uint8_t *input, size_t input_length, size_t allowance, uint8_t *output,
-                  size_t output_length, escp_counts *counts);
+typedef struct escp_record {
+    uint16_t mark;    /* ESCP_TX, ESCP_IM, ESCP_LN, ESCP_CL or ESCP_NO */
+    uint16_t column;  /* dot column */
+    uint16_t row;     /* dot row */
+    uint8_t byte;     /* TX, IM: as received; NO: see above */
+    uint8_t font;     /* the ESC k number */
+    uint16_t style;   /* bits, see above */
+    uint8_t country;  /* the ESC R number */
+    uint16_t advance; /* in units of 1/3600 inch */
+    uint8_t pages;    /* LN: the pages turned, or ESCP_NEW_TOP */
+    uint8_t reason;   /* NO: ESCP_UNLISTED to ESCP_NO_STOP */
+} escp_record;
+
+/* The number at two bytes of a record, the low one first. */
+static inline uint16_t escp_two_bytes(const uint8_t *bytes)
+{
+    return (uint16_t)(bytes[0] + 256u * bytes[1]);
+}
+
+/*
+ * Fills *record from the ESCP_RECORD_SIZE bytes of a record: mark (2 bytes), column (2), row (2), byte, font, style (2),
+ * country, zero, advance (2). An LN has its pages where others have the byte, and a NO its reason in place of a style.
+ */
+static inline void escp_fill_record(escp_record *record, const uint8_t *bytes)
+{
+    record->mark = escp_two_bytes(bytes);
+    record->column = escp_two_bytes(bytes + 2);
+    record->row = escp_two_bytes(bytes + 4);
+    record->byte = bytes[6];
+    record->font = bytes[7];
+    record->style = escp_two_bytes(bytes + 8);
+    record->country = bytes[10];
+    record->advance = escp_two_bytes(bytes + 12);
+    record->pages = 0;
+    record->reason = 0;
+    if (record->mark == ESCP_LN) {
+        record->pages = record->byte;
+        record->byte = 0;
+    }
+    if (record->mark == ESCP_NO) {
+        record->reason = (uint8_t)record->style;
+        record->style = 0;
+    }
+}
 
 #ifdef __cplusplus
 }

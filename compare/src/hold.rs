@@ -1,16 +1,17 @@
-//! The two readers held against each other, call by call.
+//! The readers held against each other, call by call.
 
 use crate::calls::{self, Call, FILL};
-use crate::mirror;
 use crate::reckoning::{expected, Printed, Record};
+use crate::registers;
+use crate::runs::{otherwise, InRuns};
 use crate::states;
-use ierbulosc::{Settings, State as Mirror, RECORD_SIZE};
+use ierbulosc::{Settings, State as Registers, RECORD_SIZE};
 use plain_reader::{Report, State, Waiting};
 
 /// A state to begin from, if not from a start, and a list of calls.
 #[derive(Clone, PartialEq, Eq, Debug)]
 pub struct Case {
-    pub state: Option<Mirror>,
+    pub state: Option<Registers>,
     pub calls: Vec<Call>,
 }
 
@@ -22,8 +23,8 @@ pub struct Came {
     pub written: usize,
     /// The whole output, which held `FILL` before the call.
     pub out: Vec<u8>,
-    /// The state; none if the plain reader's has no mirror.
-    pub state: Option<Mirror>,
+    /// The state; none if the plain reader's has no registers.
+    pub state: Option<Registers>,
 }
 
 /// How the readers differ.
@@ -34,6 +35,14 @@ pub enum Difference {
         index: usize,
         plain: Box<Came>,
         proved: Box<Came>,
+    },
+    /// A call that the plain reader in runs came back from otherwise than
+    /// byte by byte.
+    Runs {
+        index: usize,
+        plain: Box<Came>,
+        after: Option<Box<State>>,
+        runs: Box<InRuns>,
     },
     /// The letters and image bytes that the reckoning of exact places has due
     /// over all calls, and the TX and IM records that came, from the first on
@@ -57,7 +66,16 @@ pub fn difference(case: &Case, tally: &mut Tally) -> Option<Difference> {
     let mut reads = Vec::with_capacity(case.calls.len());
     let mut printed = Vec::new();
     for (index, call) in case.calls.iter().enumerate() {
+        let before = pair.plain.clone();
         let (plain, proved, same) = pair.call(call);
+        if let Some(runs) = otherwise(before, call, &plain, pair.plain.as_ref()) {
+            return Some(Difference::Runs {
+                index,
+                plain: Box::new(plain),
+                after: pair.plain.map(Box::new),
+                runs: Box::new(runs),
+            });
+        }
         if !same {
             return Some(Difference::Call {
                 index,
@@ -108,25 +126,25 @@ fn misprinted(due: Vec<Printed>, came: Vec<Record>) -> Option<Difference> {
 
 /// The readers side by side, with their states.
 struct Pair {
-    /// None for a mirror that stands for no plain state.
+    /// None for registers that stand for no plain state.
     plain: Option<State>,
-    proved: Mirror,
+    proved: Registers,
     /// Whether a start came before.
     started: bool,
 }
 
 impl Pair {
     /// From a state, or before any call: as after a refused start.
-    fn new(state: Option<&Mirror>) -> Pair {
+    fn new(state: Option<&Registers>) -> Pair {
         match state {
             Some(state) => Pair {
-                plain: mirror::plain(state),
+                plain: registers::plain(state),
                 proved: *state,
                 started: false,
             },
             None => Pair {
                 plain: Some(calls::start(&calls::REFUSED).1),
-                proved: Mirror::start(&calls::REFUSED).1,
+                proved: Registers::start(&calls::REFUSED).1,
                 started: true,
             },
         }
@@ -149,12 +167,12 @@ impl Pair {
         }
     }
 
-    /// A start, after which every field is looked at.
+    /// A start, after which every register is looked at.
     fn start(&mut self, settings: &Settings) -> (Came, Came, bool) {
         let (answer, state) = calls::start(settings);
-        let plain = Came::from_start(answer, mirror::mirror(&state, 0));
+        let plain = Came::from_start(answer, registers::registers(&state, 0));
         self.plain = Some(state);
-        let (answer, state) = Mirror::start(settings);
+        let (answer, state) = Registers::start(settings);
         let proved = Came::from_start(answer, Some(state));
         self.proved = state;
         self.started = true;
@@ -162,8 +180,8 @@ impl Pair {
         (plain, proved, same)
     }
 
-    /// The plain reader's reading call; a mirror that stands for no plain state
-    /// is refused.
+    /// The plain reader's reading call; registers that stand for no plain
+    /// state are refused.
     fn read_plain(&mut self, input: &[u8], allowance: usize, room: usize) -> Came {
         let mut out = vec![FILL; room];
         let mut report = Report {
@@ -171,15 +189,15 @@ impl Pair {
             read: 0,
             written: 0,
         };
-        let mut mirror = Some(self.proved);
+        let mut after = Some(self.proved);
         if let Some(state) = &mut self.plain {
             let before = state.clone();
             report = plain_reader::read(state, input, allowance, &mut out);
             if report.answer != plain_reader::STATE_REFUSED {
-                let first = self.proved.waiting.command;
-                mirror = left(&before, first, &input[..report.read], state);
+                let first = self.proved.command as u8;
+                after = left(&before, first, &input[..report.read], state);
             } else if *state != before {
-                mirror = None;
+                after = None;
             }
         }
         Came {
@@ -187,7 +205,7 @@ impl Pair {
             read: report.read,
             written: report.written,
             out,
-            state: mirror,
+            state: after,
         }
     }
 
@@ -204,8 +222,8 @@ impl Pair {
     }
 
     /// Whether a reading call came back the same: numbers, the whole output
-    /// and the state. A refused state is the same if every field is as it
-    /// came, and so is any after a start; of a made-up state those fields
+    /// and the state. A refused state is the same if every register is as it
+    /// came, and so is any after a start; of a made-up state those registers
     /// count that the rules look at.
     fn same(&self, plain: &Came, proved: &Came) -> bool {
         let numbers = |came: &Came| (came.answer, came.read, came.written);
@@ -218,25 +236,25 @@ impl Pair {
         if plain.answer == plain_reader::STATE_REFUSED {
             return *expected == self.proved;
         }
-        let as_plain = mirror::plain(&self.proved).map(|state| states::normal(&state));
-        mirror::normal(expected) == mirror::normal(&self.proved)
+        let as_plain = registers::plain(&self.proved).map(|state| states::normal(&state));
+        registers::normal(expected) == registers::normal(&self.proved)
             && as_plain == self.plain.as_ref().map(states::normal)
             && (!self.started || *expected == self.proved)
     }
 }
 
-/// The mirror of the plain state that these bytes have left. `image` is the
+/// The registers of the plain state that these bytes have left. `image` is the
 /// command of the image that was waited for before, if one was.
-fn left(before: &State, image: u8, bytes: &[u8], state: &State) -> Option<Mirror> {
+fn left(before: &State, image: u8, bytes: &[u8], state: &State) -> Option<Registers> {
     let thirty = match state.waiting {
-        Waiting::Image { units: 30, .. } => mirror::image_command(before, image, bytes),
+        Waiting::Image { units: 30, .. } => registers::image_command(before, image, bytes),
         _ => 0,
     };
-    mirror::mirror(state, thirty)
+    registers::registers(state, thirty)
 }
 
 impl Came {
-    fn from_start(answer: u8, state: Option<Mirror>) -> Came {
+    fn from_start(answer: u8, state: Option<Registers>) -> Came {
         Came {
             answer,
             read: 0,

@@ -3,7 +3,7 @@
 use crate::random::Random;
 
 /// The names of the inputs.
-pub const NAMES: [&str; 4] = ["letters", "text", "images", "card"];
+pub const NAMES: [&str; 5] = ["letters", "text", "styled", "images", "card"];
 
 /// A slot card: two lines with seven tab stops.
 const CARD: &[u8] = b"\x1BD\x0A\x14\x1E\x28\x32\x3C\x46\x00\
@@ -15,6 +15,7 @@ pub fn input(name: &str, length: usize) -> Option<Vec<u8>> {
     let add: fn(&mut Random, &mut Vec<u8>) = match name {
         "letters" => line_of_letters,
         "text" => line_of_text,
+        "styled" => line_of_styles,
         "images" => line_of_images,
         "card" => |_, to| to.extend(CARD),
         _ => return None,
@@ -54,6 +55,30 @@ fn line_of_text(random: &mut Random, to: &mut Vec<u8>) {
     if random.percent(5) {
         to.extend(b"\x1BD\x08\x10\x18\x20\x28\x30\x38\x40\x00\x1B!\x00\x0C");
     }
+}
+
+/// Words, each in a style, width or pitch of its own, CR and LF.
+fn line_of_styles(random: &mut Random, to: &mut Vec<u8>) {
+    const STYLES: [&[u8]; 12] = [
+        b"\x1B!\x00",
+        b"\x1B!\x08",
+        b"\x1B!\x41",
+        b"\x1B!\x84",
+        b"\x1B-1",
+        b"\x1B-0",
+        b"\x1BW1",
+        b"\x1BW0",
+        b"\x0E",
+        b"\x1BS0",
+        b"\x1BT",
+        b"\x1Bp0",
+    ];
+    for _ in 0..random.between(3, 8) {
+        to.extend(random.pick(&STYLES));
+        let count = random.between(2, 9);
+        letters(random, count, to);
+    }
+    to.extend(b"\r\n");
 }
 
 /// One image of up to the width of the paper, CR and a feed of 24/180 inch.

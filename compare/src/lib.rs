@@ -1,17 +1,19 @@
-//! Holds the proved reader, through its C interface, against the plain one:
-//! generated inputs and calls, arbitrary states, the reckoning of exact
-//! places, and a search for the shortest input that tells the two apart.
+//! Holds the proved reader, through its C interface, against the plain one,
+//! and that against the plain one in runs: generated inputs and calls,
+//! arbitrary states, the reckoning of exact places, and a search for the
+//! shortest input that tells them apart.
 
+pub mod arbitrary;
 pub mod calls;
 pub mod fields;
 pub mod generate;
 pub mod hold;
 pub mod inputs;
-pub mod mirror;
-pub mod mirrors;
 pub mod random;
 pub mod received;
 pub mod reckoning;
+pub mod registers;
+pub mod runs;
 pub mod settings;
 pub mod shortest;
 pub mod shrink;

@@ -1,15 +1,15 @@
-//! Holds the proved reader against the plain one on generated lists of calls
-//! and arbitrary states.
+//! Holds the proved reader and both plain ones against each other on generated
+//! lists of calls and arbitrary states.
 
 use compare::calls::calls;
 use compare::hold::{difference, outcomes, Case, Tally};
 use compare::random::Random;
 use compare::shortest::shortest;
-use compare::{mirror, mirrors, tell, text};
+use compare::{arbitrary, registers, tell, text};
 use std::process::ExitCode;
 
 const HELP: &str = "\
-compare: holds the proved reader against the plain one
+compare: holds the proved reader against the plain one, and that against the plain one in runs
 
     compare                        the gate run
     compare --lists N --states N --seed S
@@ -99,8 +99,8 @@ fn run(amount: &Amount) -> ExitCode {
     }
     let mut accepted = 0;
     for state in 1..=amount.states {
-        let case = mirrors::case(&mut Random::new(seeds.number()));
-        let plain = case.state.as_ref().and_then(mirror::plain);
+        let case = arbitrary::case(&mut Random::new(seeds.number()));
+        let plain = case.state.as_ref().and_then(registers::plain);
         accepted += u64::from(plain.is_some_and(|state| state.accepted()));
         if difference(&case, &mut tally).is_some() {
             let before = format!("after {} lists and {}", amount.lists, state - 1);

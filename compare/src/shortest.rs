@@ -1,10 +1,12 @@
 //! The shortest case that can be found in which the readers still differ.
 
 use crate::calls::Call;
-use crate::fields::fields;
+use crate::fields::differing;
 use crate::hold::{difference, Case, Tally};
+use crate::registers::follows;
 use crate::shrink::shrink;
-use ierbulosc::{Settings, State as Mirror};
+use ierbulosc::{Settings, State as Registers, REGISTERS};
+use std::ops::Range;
 
 const TRIES: usize = 20_000;
 
@@ -58,23 +60,12 @@ fn sooner_end(case: &Case) -> Case {
     found.next().unwrap_or_else(|| case.clone())
 }
 
-/// Sets a part of the first state as it is in the second.
-type Part = fn(&mut Mirror, &Mirror);
-
-const PARTS: [Part; 9] = [
-    |to, from| to.waiting = from.waiting,
-    |to, from| to.stops.gathered = from.stops.gathered,
-    |to, from| to.stops.columns = from.stops.columns,
-    |to, from| to.stops.lines = from.stops.lines,
-    |to, from| (to.page, to.place) = (from.page, from.place),
-    |to, from| to.face = from.face,
-    |to, from| to.style = from.style,
-    |to, from| to.width = from.width,
-    |to, from| to.setup = from.setup,
-];
+/// Registers that are tried together: what is waited for; places, margins and
+/// page; the settings, and what follows from them; each list of stops.
+const PARTS: [Range<usize>; 6] = [0..4, 4..11, 11..37, 37..71, 71..104, 104..REGISTERS];
 
 /// The case with as much of its state as at power-on as can be: parts first,
-/// then single fields.
+/// then single registers, alone or with what follows from them.
 fn plainer_state(case: &Case) -> Case {
     let Some(mut best) = case.state else {
         return case.clone();
@@ -83,20 +74,17 @@ fn plainer_state(case: &Case) -> Case {
         state: Some(state),
         calls: case.calls.clone(),
     };
-    let (_, mut power_on) = Mirror::start(&Settings::default());
-    for part in PARTS {
-        let mut candidate = best;
-        part(&mut candidate, &power_on);
-        if differs(&with(candidate)) {
-            best = candidate;
-        }
-    }
-    let numbers: Vec<u64> = fields(&mut power_on).iter().map(|f| f.get()).collect();
-    for (at, number) in numbers.into_iter().enumerate() {
-        let mut candidate = best;
-        fields(&mut candidate)[at].set(number);
-        if differs(&with(candidate)) {
-            best = candidate;
+    let (_, power_on) = Registers::start(&Settings::default());
+    let unlike = |state: &Registers| differing(state, &power_on).len();
+    let singles = (0..REGISTERS).map(|at| at..at + 1);
+    for part in PARTS.into_iter().chain(singles) {
+        let mut registers = best.registers();
+        registers[part.clone()].copy_from_slice(&power_on.registers()[part]);
+        let candidate = Registers::from_registers(registers);
+        let plainer = [candidate, follows(&candidate)].into_iter();
+        let mut plainer = plainer.filter(|state| unlike(state) < unlike(&best));
+        if let Some(found) = plainer.find(|&state| differs(&with(state))) {
+            best = found;
         }
     }
     with(best)

@@ -4,6 +4,8 @@ use crate::calls::FILL;
 use crate::fields;
 use crate::hold::{Came, Difference};
 use crate::reckoning::{Printed, Record};
+use crate::runs::InRuns;
+use plain_reader::State;
 use std::fmt::Write;
 
 /// How many records of a kind are shown.
@@ -17,6 +19,16 @@ pub fn difference(difference: &Difference) -> String {
             plain,
             proved,
         } => format!("call {}:\n{}", index + 1, both(plain, proved)),
+        Difference::Runs {
+            index,
+            plain,
+            after,
+            runs,
+        } => format!(
+            "call {}, of the plain reader alone:\n{}",
+            index + 1,
+            in_runs(plain, after.as_deref(), runs)
+        ),
         Difference::Printed { due, came } => printed(due, came),
     }
 }
@@ -30,6 +42,28 @@ pub fn both(plain: &Came, proved: &Came) -> String {
         outcome(proved, equal),
         states(plain, proved)
     )
+}
+
+/// What the plain reader came back with byte by byte and in runs.
+fn in_runs(plain: &Came, after: Option<&State>, runs: &InRuns) -> String {
+    let InRuns { report, out, state } = runs;
+    let runs = Came {
+        answer: report.answer,
+        read: report.read,
+        written: report.written,
+        out: out.clone(),
+        state: None,
+    };
+    let equal = equal_records(plain, &runs);
+    let mut text = format!(
+        "byte by byte: {}in runs:      {}",
+        outcome(plain, equal),
+        outcome(&runs, equal)
+    );
+    if after != Some(state) {
+        let _ = writeln!(text, "state byte by byte: {after:?}\nin runs: {state:?}");
+    }
+    text
 }
 
 /// How many records are the same before the first that is not; none if all
@@ -72,10 +106,10 @@ fn outcome(came: &Came, equal: usize) -> String {
     text
 }
 
-/// The fields in which the states differ.
+/// The registers in which the states differ.
 fn states(plain: &Came, proved: &Came) -> String {
     let (Some(plain), Some(proved)) = (&plain.state, &proved.state) else {
-        return "the plain reader's state has no mirror, or was altered though refused\n"
+        return "the plain reader's state has no registers, or was altered though refused\n"
             .to_string();
     };
     let mut text = String::new();

@@ -5,14 +5,14 @@
 //! start DOTS on|off|NUMBER    a start, with or without automatic line feed, or
 //!                             with this number that says so
 //! state                       from the power-on state of 300 dots,
-//! set FIELD NUMBER            but with this field so
+//! set REGISTER NUMBER         but with this register so
 //! read ALLOWANCE ROOM HEX..   a reading call: allowance, output length, input
 //! ```
 
 use crate::calls::Call;
 use crate::fields;
 use crate::hold::Case;
-use ierbulosc::{Settings, State as Mirror};
+use ierbulosc::{Settings, State as Registers};
 use std::fmt::Write;
 
 /// The case as text.
@@ -20,7 +20,7 @@ pub fn text(case: &Case) -> String {
     let mut text = String::new();
     if let Some(state) = &case.state {
         text.push_str("state\n");
-        let (_, power_on) = Mirror::start(&Settings::default());
+        let (_, power_on) = Registers::start(&Settings::default());
         for (name, number, _) in fields::differing(state, &power_on) {
             let _ = writeln!(text, "set {name} {number}");
         }
@@ -72,7 +72,7 @@ fn take_line(case: &mut Case, line: &str) -> Option<()> {
     let words: Vec<&str> = line.split_whitespace().collect();
     match *words.as_slice() {
         ["state"] if case.state.is_none() && case.calls.is_empty() => {
-            case.state = Some(Mirror::start(&Settings::default()).1);
+            case.state = Some(Registers::start(&Settings::default()).1);
         }
         ["set", name, number] if case.calls.is_empty() => {
             fields::set(case.state.as_mut()?, name, number.parse().ok()?)?;

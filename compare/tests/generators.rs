@@ -1,12 +1,13 @@
 //! What the generators reach.
 
+use compare::arbitrary;
 use compare::calls::{calls, room_for, run, Call, FILL};
-use compare::mirror::plain;
 use compare::random::Random;
+use compare::registers::{follows, plain};
 use compare::shrink::shrink;
-use compare::states::{arbitrary, inside, normal, reached};
-use compare::{generate, mirrors};
-use ierbulosc::{Settings, State as Mirror, TabStops, COLUMNS, LINES, RECORD_SIZE};
+use compare::states::{self, inside, normal, reached};
+use compare::{fields, generate};
+use ierbulosc::{Settings, State as Registers, Stops, COLUMNS, LINES, RECORD_SIZE, REGISTERS};
 use plain_reader::{read, start};
 use std::collections::{BTreeMap, BTreeSet};
 
@@ -44,7 +45,9 @@ fn all_answers_records_and_reasons_occur() {
 #[test]
 fn a_fair_part_of_the_states_is_accepted() {
     let mut random = Random::new(1);
-    let states: Vec<_> = (0..20_000).map(|_| arbitrary(&mut random)).collect();
+    let states: Vec<_> = (0..20_000)
+        .map(|_| states::arbitrary(&mut random))
+        .collect();
     let accepted = states.iter().filter(|state| state.accepted()).count();
     println!("{accepted} of {} accepted", states.len());
     assert!((6_000..12_000).contains(&accepted), "{accepted} accepted");
@@ -65,7 +68,7 @@ fn reached_and_inside_states_are_accepted() {
 fn any_state_is_read_or_left_alone() {
     let mut random = Random::new(3);
     for _ in 0..20_000 {
-        let before = arbitrary(&mut random);
+        let before = states::arbitrary(&mut random);
         let mut state = before.clone();
         let phrases = random.below(12);
         let input = generate::input(&mut random, phrases);
@@ -87,7 +90,7 @@ fn any_state_is_read_or_left_alone() {
 #[test]
 fn stops_never_set_occur() {
     let mut random = Random::new(5);
-    let states = (0..20_000).map(|_| arbitrary(&mut random));
+    let states = (0..20_000).map(|_| states::arbitrary(&mut random));
     let such = states.filter(|state| {
         let mut set = state.clone();
         set.vertical_never_set = false;
@@ -96,29 +99,29 @@ fn stops_never_set_occur() {
     assert!(such.count() > 100);
 }
 
-fn accepted(state: &Mirror) -> bool {
+fn accepted(state: &Registers) -> bool {
     plain(state).is_some_and(|state| state.accepted())
 }
 
 /// Whether a list of this escape is gathered.
-fn gathers(state: &Mirror, command: u8) -> bool {
-    (state.waiting.kind, state.waiting.command) == (ierbulosc::STOP_LIST, command)
+fn gathers(state: &Registers, command: u8) -> bool {
+    (state.kind, state.command) == (ierbulosc::STOP_LIST, command.into())
 }
 
 /// A list of stops, if the state has such a one.
-type List = fn(&mut Mirror) -> Option<&mut TabStops>;
+type List = fn(&mut Registers) -> Option<&mut Stops>;
 
 const LISTS: [(&str, List, usize); 4] = [
-    ("columns", |state| Some(&mut state.stops.columns), COLUMNS),
-    ("lines", |state| Some(&mut state.stops.lines), LINES),
+    ("columns", |state| Some(&mut state.columns), COLUMNS),
+    ("lines", |state| Some(&mut state.lines), LINES),
     (
         "gathered columns",
-        |state| gathers(state, b'D').then_some(&mut state.stops.gathered),
+        |state| gathers(state, b'D').then_some(&mut state.gathered),
         COLUMNS,
     ),
     (
         "gathered lines",
-        |state| gathers(state, b'B').then_some(&mut state.stops.gathered),
+        |state| gathers(state, b'B').then_some(&mut state.gathered),
         LINES,
     ),
 ];
@@ -127,8 +130,8 @@ const LISTS: [(&str, List, usize); 4] = [
 #[test]
 fn too_many_stops_occur() {
     let mut random = Random::new(6);
-    let states: Vec<_> = (0..100_000)
-        .map(|_| mirrors::arbitrary(&mut random))
+    let states: Vec<_> = (0..200_000)
+        .map(|_| arbitrary::arbitrary(&mut random))
         .collect();
     for (name, list, most) in LISTS {
         let most = most as u32;
@@ -149,14 +152,44 @@ fn too_many_stops_occur() {
 #[test]
 fn columns_above_255_occur() {
     let mut random = Random::new(7);
-    let states = (0..20_000).map(|_| mirrors::arbitrary(&mut random));
+    let states = (0..20_000).map(|_| arbitrary::arbitrary(&mut random));
     let such = states.filter(|state| {
         let mut mended = *state;
-        let mut stops = mended.stops.columns.stops.iter_mut();
+        let mut stops = mended.columns.stops.iter_mut();
         let high = stops.find(|stop| **stop > 255);
         high.map(|stop| *stop = 255).is_some() && !accepted(state) && accepted(&mended)
     });
     assert!(such.count() > 30);
+}
+
+/// Registers that are wrong alone: with a number of power-on in one, and what
+/// follows from it, the state is accepted.
+#[test]
+fn each_register_is_wrong_alone() {
+    let mut random = Random::new(9);
+    let power_on = Registers::start(&Settings::default()).1;
+    let mut such = vec![0; REGISTERS];
+    for _ in 0..100_000 {
+        let state = arbitrary::arbitrary(&mut random);
+        if accepted(&state) {
+            continue;
+        }
+        for (at, such) in such.iter_mut().enumerate().take(39) {
+            let mut mended = state.registers();
+            mended[at] = power_on.registers()[at];
+            let mended = follows(&Registers::from_registers(mended));
+            let alone = mended.registers()[at] != state.registers()[at] && accepted(&mended);
+            *such += u64::from(alone);
+        }
+    }
+    let mut state = power_on;
+    let names = fields::fields(&mut state)
+        .into_iter()
+        .map(|field| field.name);
+    for (name, such) in names.zip(such).take(39) {
+        println!("{name}: {such}");
+        assert!(such > 20, "{name}: {such}");
+    }
 }
 
 /// Gathered lists of both kinds, from empty to full, and anything at all in
@@ -165,10 +198,10 @@ fn columns_above_255_occur() {
 fn gathered_lists_of_both_kinds_occur() {
     let mut random = Random::new(8);
     let states: Vec<_> = (0..100_000)
-        .map(|_| mirrors::arbitrary(&mut random))
+        .map(|_| arbitrary::arbitrary(&mut random))
         .filter(accepted)
         .collect();
-    let occurs = |what: &str, test: &dyn Fn(&Mirror) -> bool| {
+    let occurs = |what: &str, test: &dyn Fn(&Registers) -> bool| {
         let such = states.iter().filter(|state| test(state)).count();
         println!("{what}: {such}");
         assert!(such > 30, "{what}: {such}");
@@ -176,13 +209,13 @@ fn gathered_lists_of_both_kinds_occur() {
     for (command, most) in [(b'D', COLUMNS as u32), (b'B', LINES as u32)] {
         for count in [0, 1, 3, most - 1, most] {
             occurs(&format!("{count} of {command}"), &|state| {
-                gathers(state, command) && state.stops.gathered.count == count
+                gathers(state, command) && state.gathered.count == count
             });
         }
     }
     for count in [1, 16, 17, 32, 33, 65_536, u32::MAX] {
         occurs(&format!("{count} of none"), &|state| {
-            state.waiting.kind != ierbulosc::STOP_LIST && state.stops.gathered.count == count
+            state.kind != ierbulosc::STOP_LIST && state.gathered.count == count
         });
     }
 }
@@ -192,7 +225,7 @@ fn gathered_lists_of_both_kinds_occur() {
 fn unseen_parts_make_no_difference() {
     let mut random = Random::new(4);
     for _ in 0..10_000 {
-        let mut state = arbitrary(&mut random);
+        let mut state = states::arbitrary(&mut random);
         let mut plain = normal(&state);
         assert_eq!(state.accepted(), plain.accepted());
         let input = generate::input(&mut random, 8);

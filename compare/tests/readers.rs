@@ -1,11 +1,13 @@
 //! The readers held against each other, and cases told as text.
 
-use compare::calls::{calls, Call};
+use compare::arbitrary;
+use compare::calls::{calls, room_for, Call};
+use compare::fields::fields;
 use compare::hold::{difference, outcomes, Case, Tally};
-use compare::mirrors;
 use compare::random::Random;
+use compare::registers::{follows, plain};
 use compare::text;
-use ierbulosc::RECORD_SIZE;
+use ierbulosc::{State as Registers, LINES, RECORD_SIZE, REGISTERS};
 
 #[test]
 fn no_difference_in_a_small_run() {
@@ -14,7 +16,7 @@ fn no_difference_in_a_small_run() {
         let calls = calls(&mut Random::new(seed));
         let case = Case { state: None, calls };
         assert_eq!(difference(&case, &mut tally), None, "{}", text::text(&case));
-        let case = mirrors::case(&mut Random::new(seed));
+        let case = arbitrary::case(&mut Random::new(seed));
         assert_eq!(difference(&case, &mut tally), None, "{}", text::text(&case));
     }
     assert!(tally.calls > 5_000 && tally.bytes > 50_000, "{tally:?}");
@@ -25,7 +27,7 @@ fn text_tells_the_case() {
     for seed in 0..500 {
         let calls = calls(&mut Random::new(seed));
         let list = Case { state: None, calls };
-        for case in [list, mirrors::case(&mut Random::new(seed))] {
+        for case in [list, arbitrary::case(&mut Random::new(seed))] {
             assert_eq!(text::case(&text::text(&case)), Ok(case));
         }
     }
@@ -37,15 +39,15 @@ fn text_that_tells_no_case() {
         "begin",
         "start 300",
         "start 300 maybe",
-        "set width.pitch 12",
-        "state\nset width.pitch 256",
-        "state\nset width.depth 1",
+        "set pitch 12",
+        "state\nset pitch 4294967296",
+        "state\nset depth 1",
         "state\nstate",
         "read 1",
         "read 1 99 A",
         "read 1 99 +A",
         "read -1 99",
-        "read 0 99\nset width.pitch 12",
+        "read 0 99\nset pitch 12",
     ];
     for line in lines {
         assert!(text::case(line).is_err(), "{line}");
@@ -54,7 +56,7 @@ fn text_that_tells_no_case() {
 
 #[test]
 fn a_case_from_text() {
-    let case = text::case("state\nset place.across 28801\nread 2 56 41 0A\n").unwrap();
+    let case = text::case("state\nset across 28801\nread 2 56 41 0A\n").unwrap();
     let came = outcomes(&case);
     assert_eq!(came[0].0.answer, 4);
     assert_eq!(came[0].0.state, case.state);
@@ -63,4 +65,74 @@ fn a_case_from_text() {
     let came = (last.answer, last.read, last.written);
     assert_eq!(came, (0, 3, 3 * RECORD_SIZE));
     assert!(matches!(case.calls[1], Call::Read { room: 99, .. }));
+}
+
+/// Numbers at, beside and far from every bound, and the own one with more
+/// above its low bits.
+fn numbers(own: u32) -> impl Iterator<Item = u32> {
+    const LIMITS: [u32; 29] = [
+        0, 1, 2, 3, 4, 5, 6, 10, 11, 12, 13, 14, 15, 16, 17, 32, 33, 64, 65, 127, 128, 200, 203,
+        255, 256, 300, 3_600, 5_100, 5_101,
+    ];
+    const FAR: [u32; 8] = [
+        28_800,
+        28_801,
+        39_600,
+        65_535,
+        65_536,
+        79_199,
+        79_200,
+        u32::MAX,
+    ];
+    let beside = [own.wrapping_sub(1), own.wrapping_add(1)];
+    let above = [8, 16, 24, 31].map(|bit| own.wrapping_add(1 << bit));
+    LIMITS.into_iter().chain(FAR).chain(beside).chain(above)
+}
+
+/// Each register at, inside and outside its bounds, and nothing else changed
+/// but, for every second state, what follows from it: both readers take the
+/// same states, and leave the others as they came.
+#[test]
+fn each_register_at_its_bounds() {
+    let mut random = Random::new(11);
+    let mut tally = Tally::default();
+    let mut taken = [[0, 0]; REGISTERS];
+    for turn in 0..160 {
+        let base = arbitrary::accepted(&mut random);
+        for (at, taken) in taken.iter_mut().enumerate() {
+            let own = base.registers()[at];
+            for number in numbers(own).filter(|&number| number != own) {
+                let mut registers = base.registers();
+                registers[at] = number;
+                let mut state = Registers::from_registers(registers);
+                if turn % 2 == 0 {
+                    state = follows(&state);
+                }
+                let case = Case {
+                    state: Some(state),
+                    calls: vec![reading(b"A\tB\r\n\x1BE\x0BC")],
+                };
+                assert_eq!(difference(&case, &mut tally), None, "{}", text::text(&case));
+                let accepted = plain(&state).is_some_and(|state| state.accepted());
+                taken[usize::from(accepted)] += u64::from(state != base);
+            }
+        }
+    }
+    let mut state = Registers::from_registers([0; REGISTERS]);
+    for (field, [refused, accepted]) in fields(&mut state).iter().zip(taken) {
+        let name = field.name;
+        let unseen = name
+            .slot_of("lines.stops")
+            .is_some_and(|slot| slot >= LINES);
+        assert_eq!(refused == 0, unseen, "{name}: {refused} refused");
+        assert_eq!(accepted == 0, name.is_derived(), "{name}: {accepted}");
+    }
+}
+
+fn reading(input: &[u8]) -> Call {
+    Call::Read {
+        input: input.to_vec(),
+        allowance: usize::MAX,
+        room: room_for(input.len()),
+    }
 }

@@ -39,10 +39,10 @@ fn bad_usage() {
         is_refused(&compare(arguments));
     }
     for arguments in [
-        &["--only", "both"][..],
-        &["--input", "cards"],
-        &["--input"],
-        &["--twice"],
+        &["--twice"][..],
+        &["--runs", "both"],
+        &["--watch"],
+        &["--write", "one", "two"],
     ] {
         is_refused(&speed(arguments));
     }
@@ -55,6 +55,30 @@ fn a_short_run() {
     assert_eq!(output.status.code(), Some(0));
     assert!(line.contains("20 lists of calls and 30 states"), "{line}");
     assert_eq!(line.lines().count(), 1);
+}
+
+/// Without valgrind, or without a limit, the watch over speed fails, and says
+/// what is missing.
+#[test]
+fn a_watch_that_cannot_be_kept() {
+    let limits = concat!(env!("CARGO_MANIFEST_DIR"), "/limits.txt");
+    for (file, missing) in [(limits, "valgrind"), ("/no/such/file", "/no/such/file")] {
+        let mut watch = Command::new(env!("CARGO_BIN_EXE_speed"));
+        let output = watch.args(["--watch", file]).env("PATH", "").output();
+        let output = output.unwrap();
+        let line = String::from_utf8_lossy(&output.stderr);
+        assert_eq!(output.status.code(), Some(1), "{line}");
+        assert!(output.stdout.is_empty());
+        assert!(line.contains(missing), "{line}");
+    }
+}
+
+#[test]
+fn the_stack_is_measured() {
+    let output = speed(&["--stack"]);
+    let table = String::from_utf8_lossy(&output.stdout);
+    assert_eq!(output.status.code(), Some(0), "{table}");
+    assert_eq!(table.lines().count(), 4, "{table}");
 }
 
 #[test]

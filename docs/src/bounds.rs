@@ -85,10 +85,13 @@ impl State {
 impl Stops {
     /// Not too many stops, ascending strictly, from 1 to the highest.
     fn in_bounds(&self, limits: &Limits) -> bool {
-        let in_range = |stop: &u32| (1..=limits.highest).contains(stop);
         self.count <= limits.most
-            && self.list().iter().all(in_range)
             && self.list().windows(2).all(|pair| pair[0] < pair[1])
+            && self.list().first().is_none_or(|&stop| stop >= 1)
+            && self
+                .list()
+                .last()
+                .is_none_or(|&stop| stop <= limits.highest)
     }
 
     /// A list being gathered: its last byte, made a stop, is not below its

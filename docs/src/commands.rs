@@ -1,7 +1,8 @@
 //! The steps of the rules: one byte read at a time.
 
 use crate::bounds::arguments_taken;
-use crate::records::{Reason, Records};
+use crate::reading::Reading;
+use crate::records::Reason;
 use crate::state::{State, Waiting};
 
 const BS: u8 = 0x08;
@@ -16,153 +17,185 @@ const DC2: u8 = 0x12;
 const DC4: u8 = 0x14;
 const ESC: u8 = 0x1B;
 
-/// Reads one byte.
-pub fn step(state: &mut State, byte: u8, records: &mut Records) {
-    match state.waiting {
-        Waiting::Nothing => first_byte(state, byte, records),
-        Waiting::SecondByte => second_byte(state, byte, records),
-        Waiting::Arguments {
-            command,
-            given: 0,
-            first: _,
-        } => first_argument(state, command, byte, records),
-        Waiting::Arguments { command, first, .. } => {
-            state.waiting = Waiting::Nothing;
-            let done = two_arguments(state, command, first, byte, records);
-            note(done, command, records);
+impl Reading<'_> {
+    /// Reads one byte. Letters and image data come most often: they are read
+    /// here, all else by functions of its own.
+    #[inline(always)]
+    pub fn step(&mut self, byte: u8) {
+        match self.state.waiting {
+            Waiting::Nothing => self.first_byte(byte),
+            Waiting::SecondByte => self.second_byte(byte),
+            Waiting::Arguments {
+                command, given: 0, ..
+            } => self.first_argument(command, byte),
+            Waiting::Arguments { command, first, .. } => self.second_argument(command, first, byte),
+            Waiting::HorizontalStops { last } => self.horizontal_stop(last, byte),
+            Waiting::VerticalStops { last } => self.vertical_stop(last, byte),
+            Waiting::Image { units, columns } => self.image_column(byte, units, columns),
         }
-        Waiting::HorizontalStops { last } => state.horizontal_stop(last, byte, records),
-        Waiting::VerticalStops { last } => state.vertical_stop(last, byte, records),
-        Waiting::Image { units, columns } => state.image_column(byte, units, columns, records),
     }
-}
 
-/// Writes a NO record for what could not be done.
-fn note(done: Result<(), Reason>, byte: u8, records: &mut Records) {
-    if let Err(reason) = done {
-        records.passed_over(byte, reason);
-    }
-}
-
-/// A letter, or a control byte, which after ESC 7 may have its top bit set.
-fn first_byte(state: &mut State, byte: u8, records: &mut Records) {
-    match byte {
-        0x20..=0x7E | 0xA0..=0xFF => state.letter(byte, records),
-        0x80..=0x9F if state.upper_codes_print => state.letter(byte, records),
-        0x80..=0x9F => note(control(state, byte - 0x80, records), byte, records),
-        _ => note(control(state, byte, records), byte, records),
-    }
-}
-
-fn control(state: &mut State, code: u8, records: &mut Records) -> Result<(), Reason> {
-    match code {
-        BS => return state.move_across(-(state.advance() as i32)),
-        HT => return state.horizontal_tab(),
-        LF => state.line_feed(records),
-        VT => state.vertical_tab(records),
-        FF => state.form_feed(records),
-        CR => state.carriage_return(records),
-        SO => state.shift_out = true,
-        SI => return reduce(state),
-        DC2 => state.reduced = false,
-        DC4 => state.shift_out = false,
-        ESC => state.waiting = Waiting::SecondByte,
-        _ => return Err(Reason::Unlisted),
-    }
-    Ok(())
-}
-
-/// SI and ESC SI: reduced characters, not at 15 cpi.
-fn reduce(state: &mut State) -> Result<(), Reason> {
-    if state.pitch == 15 {
-        return Err(Reason::NotAllowed);
-    }
-    state.reduced = true;
-    Ok(())
-}
-
-/// An escape's second byte: a command done at once, or one to wait for.
-fn second_byte(state: &mut State, byte: u8, records: &mut Records) {
-    state.waiting = Waiting::Nothing;
-    match byte {
-        SO => state.shift_out = true,
-        SI => note(reduce(state), byte, records),
-        b'@' => state.initialize(records),
-        b'0' => state.line_amount = 450,
-        b'2' => state.line_amount = 600,
-        b'O' => state.skip = 0,
-        b'B' => state.begin_vertical_stops(),
-        b'D' => state.begin_horizontal_stops(),
-        b'P' => state.pitch = 10,
-        b'M' => state.pitch = 12,
-        b'g' => state.pitch = 15,
-        b'E' | b'F' => state.bold = byte == b'E',
-        b'G' | b'H' => state.double_strike = byte == b'G',
-        b'4' | b'5' => state.italic = byte == b'4',
-        b'6' | b'7' => state.upper_codes_print = byte == b'6',
-        b'T' => {
-            state.superscript = false;
-            state.subscript = false;
+    /// Writes a NO record for what could not be done.
+    fn note(&mut self, done: Result<(), Reason>, byte: u8) {
+        if let Err(reason) = done {
+            self.records.passed_over(byte, reason);
         }
-        _ if arguments_taken(byte) > 0 => {
-            state.waiting = Waiting::Arguments {
-                command: byte,
-                given: 0,
-                first: 0,
+    }
+
+    /// A letter, or a control byte, which after ESC 7 may have its top bit set.
+    #[inline(always)]
+    fn first_byte(&mut self, byte: u8) {
+        if self.state.is_letter(byte) {
+            self.letter(byte);
+        } else {
+            self.control_byte(byte);
+        }
+    }
+
+    #[inline(never)]
+    pub fn control_byte(&mut self, byte: u8) {
+        let done = self.control(if byte < 0x80 { byte } else { byte - 0x80 });
+        self.note(done, byte);
+    }
+
+    fn control(&mut self, code: u8) -> Result<(), Reason> {
+        match code {
+            BS => return self.move_across(-(self.advance as i32)),
+            HT => return self.horizontal_tab(),
+            LF => self.line_feed(),
+            VT => self.vertical_tab(),
+            FF => self.form_feed(),
+            CR => self.carriage_return(),
+            SO => self.set_width(|state| state.shift_out = true),
+            SI => return self.reduce(),
+            DC2 => self.set_width(|state| state.reduced = false),
+            DC4 => self.end_shift_out(),
+            ESC => self.state.waiting = Waiting::SecondByte,
+            _ => return Err(Reason::Unlisted),
+        }
+        Ok(())
+    }
+
+    /// SI and ESC SI: reduced characters, not at 15 cpi.
+    fn reduce(&mut self) -> Result<(), Reason> {
+        if self.state.pitch == 15 {
+            return Err(Reason::NotAllowed);
+        }
+        self.set_width(|state| state.reduced = true);
+        Ok(())
+    }
+
+    /// An escape's second byte: a command done at once, or one to wait for.
+    #[inline(never)]
+    fn second_byte(&mut self, byte: u8) {
+        self.state.waiting = Waiting::Nothing;
+        match byte {
+            SO => self.set_width(|state| state.shift_out = true),
+            SI => {
+                let done = self.reduce();
+                self.note(done, byte);
             }
+            b'@' => self.initialize(),
+            b'0' => self.state.line_amount = 450,
+            b'2' => self.state.line_amount = 600,
+            b'O' => self.state.skip = 0,
+            b'B' => self.begin_vertical_stops(),
+            b'D' => self.begin_horizontal_stops(),
+            b'P' => self.set_width(|state| state.pitch = 10),
+            b'M' => self.set_width(|state| state.pitch = 12),
+            b'g' => self.set_width(|state| state.pitch = 15),
+            b'E' | b'F' => self.set_style(|state| state.bold = byte == b'E'),
+            b'G' | b'H' => self.set_style(|state| state.double_strike = byte == b'G'),
+            b'4' | b'5' => self.set_style(|state| state.italic = byte == b'4'),
+            b'6' | b'7' => self.state.upper_codes_print = byte == b'6',
+            b'T' => self.set_style(|state| {
+                state.superscript = false;
+                state.subscript = false;
+            }),
+            _ if arguments_taken(byte) > 0 => {
+                self.state.waiting = Waiting::Arguments {
+                    command: byte,
+                    given: 0,
+                    first: 0,
+                }
+            }
+            _ => self.records.passed_over(byte, Reason::Unlisted),
         }
-        _ => records.passed_over(byte, Reason::Unlisted),
     }
-}
 
-/// A command's first argument: its only one, or another is waited for.
-fn first_argument(state: &mut State, command: u8, n: u8, records: &mut Records) {
-    let another = match command {
-        b'C' => n == 0,
-        _ => arguments_taken(command) == 2,
-    };
-    if another {
-        state.waiting = Waiting::Arguments {
-            command,
-            given: 1,
-            first: n,
+    /// A command's first argument: its only one, or another is waited for.
+    #[inline(never)]
+    fn first_argument(&mut self, command: u8, n: u8) {
+        let another = match command {
+            b'C' => n == 0,
+            _ => arguments_taken(command) == 2,
         };
-    } else {
-        state.waiting = Waiting::Nothing;
-        note(one_argument(state, command, n, records), command, records);
+        if another {
+            self.state.waiting = Waiting::Arguments {
+                command,
+                given: 1,
+                first: n,
+            };
+        } else {
+            self.state.waiting = Waiting::Nothing;
+            let done = self.one_argument(command, n);
+            self.note(done, command);
+        }
     }
-}
 
-fn one_argument(
-    state: &mut State,
-    command: u8,
-    n: u8,
-    records: &mut Records,
-) -> Result<(), Reason> {
-    let amount = u32::from(n);
-    match command {
-        b'3' => state.line_amount = 20 * amount,
-        b'A' if n <= 85 => state.line_amount = 60 * amount,
-        b'+' => state.line_amount = 10 * amount,
-        b'J' => state.feed(n, records),
-        b'C' if n <= 127 => return state.set_page_length(amount * state.line_amount, records),
-        b'N' if (1..=127).contains(&n) => return state.set_skip(amount * state.line_amount),
-        b'l' => return state.set_margins(amount * state.column_width(), state.right, records),
-        b'Q' => return state.set_margins(state.left, amount * state.column_width(), records),
-        b't' if n <= 1 => state.italic_table = n == 0,
-        b'R' if n <= 13 || n == 0x40 => state.country = n,
-        b'q' if n <= 3 => state.character_style = n,
-        b'k' => state.font = n,
-        b' ' => state.spacing = n % 128,
-        b'!' => format(state, n),
-        b'p' | b'S' | b'x' | b'W' | b'w' | b'-' | b'%' => match n {
-            0 | 0x30 => switch(state, command, false),
-            1 | 0x31 => switch(state, command, true),
-            _ => return Err(Reason::NotAllowed),
-        },
-        _ => return Err(Reason::NotAllowed),
+    /// A command's second argument.
+    #[inline(never)]
+    fn second_argument(&mut self, command: u8, first: u8, second: u8) {
+        self.state.waiting = Waiting::Nothing;
+        let done = self.two_arguments(command, first, second);
+        self.note(done, command);
     }
-    Ok(())
+
+    fn one_argument(&mut self, command: u8, n: u8) -> Result<(), Reason> {
+        let amount = u32::from(n);
+        match command {
+            b'3' => self.state.line_amount = 20 * amount,
+            b'A' if n <= 85 => self.state.line_amount = 60 * amount,
+            b'+' => self.state.line_amount = 10 * amount,
+            b'J' => self.feed(n),
+            b'C' if n <= 127 => return self.set_page_length(amount * self.state.line_amount),
+            b'N' if (1..=127).contains(&n) => {
+                return self.set_skip(amount * self.state.line_amount)
+            }
+            b'l' => return self.set_margins(amount * self.column_width, self.state.right),
+            b'Q' => return self.set_margins(self.state.left, amount * self.column_width),
+            b't' if n <= 1 => self.set_style(|state| state.italic_table = n == 0),
+            b'R' if n <= 13 || n == 0x40 => self.state.country = n,
+            b'q' if n <= 3 => self.set_style(|state| state.character_style = n),
+            b'k' => self.state.font = n,
+            b' ' => self.set_width(|state| state.spacing = n % 128),
+            b'!' => self.set_width(|state| format(state, n)),
+            b'p' | b'S' | b'x' | b'W' | b'w' | b'-' | b'%' => match n {
+                0 | 0x30 => self.set_width(|state| switch(state, command, false)),
+                1 | 0x31 => self.set_width(|state| switch(state, command, true)),
+                _ => return Err(Reason::NotAllowed),
+            },
+            _ => return Err(Reason::NotAllowed),
+        }
+        Ok(())
+    }
+
+    fn two_arguments(&mut self, command: u8, a: u8, b: u8) -> Result<(), Reason> {
+        let number = u16::from_le_bytes([a, b]);
+        match command {
+            b'$' => return self.go_across(self.state.left + 60 * u32::from(number)),
+            b'\\' => {
+                let step = if self.state.draft { 30 } else { 20 };
+                return self.move_across(step * i32::from(number as i16));
+            }
+            b'C' if (1..=22).contains(&b) => return self.set_page_length(3_600 * u32::from(b)),
+            b'C' => return Err(Reason::NotAllowed),
+            b'K' => self.await_image(60, u32::from(number)),
+            b'Z' => self.await_image(15, u32::from(number)),
+            _ => self.await_image(30, u32::from(number)),
+        }
+        Ok(())
+    }
 }
 
 /// The commands whose argument is off or on.
@@ -195,39 +228,4 @@ fn format(state: &mut State, n: u8) {
     switch(state, b'W', bit(0x20));
     state.italic = bit(0x40);
     state.underline = bit(0x80);
-}
-
-fn two_arguments(
-    state: &mut State,
-    command: u8,
-    a: u8,
-    b: u8,
-    records: &mut Records,
-) -> Result<(), Reason> {
-    let number = u16::from_le_bytes([a, b]);
-    match command {
-        b'$' => return state.go_across(state.left + 60 * u32::from(number)),
-        b'\\' => {
-            let step = if state.draft { 30 } else { 20 };
-            return state.move_across(step * i32::from(number as i16));
-        }
-        b'C' if (1..=22).contains(&b) => {
-            return state.set_page_length(3_600 * u32::from(b), records)
-        }
-        b'C' => return Err(Reason::NotAllowed),
-        b'K' => begin_image(state, 60, number),
-        b'Z' => begin_image(state, 15, number),
-        _ => begin_image(state, 30, number),
-    }
-    Ok(())
-}
-
-/// ESC K, L, Y, Z: waits for image data, if there is any.
-fn begin_image(state: &mut State, units: u32, columns: u16) {
-    if columns > 0 {
-        state.waiting = Waiting::Image {
-            units,
-            columns: u32::from(columns),
-        };
-    }
 }

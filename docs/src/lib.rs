@@ -1,10 +1,14 @@
-//! A plain reader of the ESC/P legacy page language: bytes come in, placed
-//! records come out. One unit is 1/3600 inch.
+//! Plain readers of the ESC/P legacy page language: bytes come in, placed
+//! records come out. One unit is 1/3600 inch. [`read`] takes byte by byte;
+//! [`read_in_runs`] takes letters that follow each other, and image data, in
+//! runs. Both give the same answers.
 
 mod bounds;
 mod commands;
 mod place;
+mod reading;
 mod records;
+mod runs;
 mod state;
 mod stops;
 #[cfg(test)]
@@ -12,7 +16,8 @@ mod tests;
 
 pub use state::{State, Stops, Waiting};
 
-use records::{Records, RECORD_SIZE};
+use reading::Reading;
+use records::RECORD_SIZE;
 
 /// The input is used up, or a start is accepted.
 pub const INPUT_USED: u8 = 0;
@@ -47,6 +52,27 @@ pub fn start(dots: u32, auto_feed: bool) -> (u8, State) {
 
 /// Reads a piece of input: updates the state and writes records to `out`.
 pub fn read(state: &mut State, input: &[u8], allowance: usize, out: &mut [u8]) -> Report {
+    call(state, input, allowance, out, |reading, input| {
+        reading.bytes(input)
+    })
+}
+
+/// As [`read`], in runs.
+pub fn read_in_runs(state: &mut State, input: &[u8], allowance: usize, out: &mut [u8]) -> Report {
+    call(state, input, allowance, out, |reading, input| {
+        reading.runs(input)
+    })
+}
+
+/// A reading call whose allowed input is taken in one of the two ways, which
+/// give how much of it was read before the output was full.
+fn call(
+    state: &mut State,
+    input: &[u8],
+    allowance: usize,
+    out: &mut [u8],
+    take: impl Fn(&mut Reading, &[u8]) -> usize,
+) -> Report {
     if !state.accepted() {
         return Report {
             answer: STATE_REFUSED,
@@ -54,24 +80,19 @@ pub fn read(state: &mut State, input: &[u8], allowance: usize, out: &mut [u8]) -
             written: 0,
         };
     }
-    let mut records = Records::new(out);
-    let mut read = 0;
-    let answer = loop {
-        if read == input.len() {
-            break INPUT_USED;
-        }
-        if read == allowance {
-            break ALLOWANCE_USED;
-        }
-        if records.room() < ROOM_FOR_A_BYTE {
-            break OUTPUT_FULL;
-        }
-        commands::step(state, input[read], &mut records);
-        read += 1;
+    let allowed = &input[..input.len().min(allowance)];
+    let mut reading = Reading::new(state, out);
+    let read = take(&mut reading, allowed);
+    let answer = if read == input.len() {
+        INPUT_USED
+    } else if read == allowance {
+        ALLOWANCE_USED
+    } else {
+        OUTPUT_FULL
     };
     Report {
         answer,
         read,
-        written: records.written(),
+        written: reading.records.written(),
     }
 }

@@ -1,194 +1,221 @@
 //! Letters, images, feeds, tabs and moves: what sets and moves the place.
 
-use crate::records::{Reason, Record, Records, NEW_TOP};
+use crate::reading::Reading;
+use crate::records::{Reason, Record, NEW_TOP};
 use crate::state::{State, Waiting, LONGEST_PAGE, PAPER_WIDTH, SHORTEST_PAGE};
 
-impl State {
+impl Reading<'_> {
     /// A letter: placed, placed after an automatic line, or passed over.
-    pub(crate) fn letter(&mut self, letter: u8, records: &mut Records) {
-        let mut advance = self.advance();
-        if self.across + advance > self.right && self.across != self.left {
-            self.line_feed(records);
-            advance = self.advance();
+    #[inline(always)]
+    pub fn letter(&mut self, letter: u8) {
+        if self.fits(self.advance) {
+            self.place_letter(letter);
+        } else {
+            self.letter_past_the_margin(letter);
         }
-        if self.across + advance > self.right {
-            records.passed_over(letter, Reason::DoesNotFit);
-            return;
+    }
+
+    #[inline(never)]
+    fn letter_past_the_margin(&mut self, letter: u8) {
+        if self.state.across != self.state.left {
+            self.line_feed();
         }
-        records.put(&Record {
-            mark: *b"TX",
-            column: self.column(),
-            row: self.row(),
-            byte: letter,
-            font: self.font,
-            style: self.style(),
-            country: self.country,
-            advance: advance as u16,
-        });
-        self.across += advance;
+        if self.fits(self.advance) {
+            self.place_letter(letter);
+        } else {
+            self.records.passed_over(letter, Reason::DoesNotFit);
+        }
+    }
+
+    #[inline(always)]
+    fn place_letter(&mut self, letter: u8) {
+        let record = self.letter_record(self.state.column(), letter);
+        self.records.put(&record);
+        self.state.across += self.advance;
     }
 
     /// One byte of image data.
-    pub(crate) fn image_column(
-        &mut self,
-        byte: u8,
-        units: u32,
-        columns: u32,
-        records: &mut Records,
-    ) {
-        self.waiting = if columns > 1 {
-            Waiting::Image {
-                units,
-                columns: columns - 1,
-            }
+    #[inline(always)]
+    pub fn image_column(&mut self, byte: u8, units: u32, columns: u32) {
+        self.await_image(units, columns - 1);
+        if self.fits(units) {
+            let record = self.image_record(self.state.column(), byte, units);
+            self.records.put(&record);
+            self.state.across += units;
         } else {
-            Waiting::Nothing
-        };
-        if self.across + units > self.right {
-            records.passed_over(byte, Reason::DoesNotFit);
-            return;
+            self.records.passed_over(byte, Reason::DoesNotFit);
         }
-        records.put(&Record {
+    }
+
+    /// Waits for so many columns of image data, if any.
+    pub fn await_image(&mut self, units: u32, columns: u32) {
+        self.state.waiting = match columns {
+            0 => Waiting::Nothing,
+            _ => Waiting::Image { units, columns },
+        };
+    }
+
+    /// Whether so much more fits on the line.
+    fn fits(&self, units: u32) -> bool {
+        self.state.across + units <= self.state.right
+    }
+
+    /// TX on the present row, in this column.
+    pub fn letter_record(&self, column: u16, letter: u8) -> Record {
+        Record {
+            mark: *b"TX",
+            column,
+            row: self.row,
+            byte: letter,
+            font: self.state.font,
+            style: self.style,
+            country: self.state.country,
+            advance: self.advance as u16,
+        }
+    }
+
+    /// IM on the present row, in this column.
+    pub fn image_record(&self, column: u16, byte: u8, units: u32) -> Record {
+        Record {
             mark: *b"IM",
-            column: self.column(),
-            row: self.row(),
+            column,
+            row: self.row,
             byte,
             advance: units as u16,
             ..Record::default()
-        });
-        self.across += units;
+        }
     }
 
     /// CR, with the LF of an automatic line feed.
-    pub(crate) fn carriage_return(&mut self, records: &mut Records) {
-        self.across = self.left;
-        if self.automatic_line_feed {
-            self.line_feed(records);
+    pub fn carriage_return(&mut self) {
+        self.state.across = self.state.left;
+        if self.state.automatic_line_feed {
+            self.line_feed();
+        }
+    }
+
+    /// Ends SO.
+    pub fn end_shift_out(&mut self) {
+        if self.state.shift_out {
+            self.set_width(|state| state.shift_out = false);
         }
     }
 
     /// LF: one line down, or to the next page's top.
-    pub(crate) fn line_feed(&mut self, records: &mut Records) {
-        self.across = self.left;
-        self.shift_out = false;
-        self.down += self.line_amount;
-        let turned = self.down >= self.edge();
-        if turned {
-            self.down = 0;
-        }
-        records.line(self.row(), u8::from(turned));
+    pub fn line_feed(&mut self) {
+        self.end_shift_out();
+        self.state.across = self.state.left;
+        let down = self.state.down + self.state.line_amount;
+        let turned = down >= self.state.edge();
+        self.go_down(if turned { 0 } else { down });
+        self.records.line(self.row, u8::from(turned));
     }
 
     /// FF: to the next page's top.
-    pub(crate) fn form_feed(&mut self, records: &mut Records) {
-        self.across = self.left;
-        self.shift_out = false;
-        self.down = 0;
-        records.line(0, 1);
+    pub fn form_feed(&mut self) {
+        self.end_shift_out();
+        self.state.across = self.state.left;
+        self.go_down(0);
+        self.records.line(0, 1);
     }
 
     /// ESC J: down by n/180 inch, over page ends.
-    pub(crate) fn feed(&mut self, n: u8, records: &mut Records) {
-        let sum = self.down + 20 * u32::from(n);
-        let edge = self.edge();
-        self.down = sum % edge;
-        records.line(self.row(), (sum / edge) as u8);
+    pub fn feed(&mut self, n: u8) {
+        let sum = self.state.down + 20 * u32::from(n);
+        let edge = self.state.edge();
+        let pages = if sum < edge { 0 } else { sum / edge };
+        self.go_down(sum - pages * edge);
+        self.records.line(self.row, pages as u8);
     }
 
     /// VT: to the next vertical stop.
-    pub(crate) fn vertical_tab(&mut self, records: &mut Records) {
-        self.shift_out = false;
-        if self.vertical_never_set {
-            return self.line_feed(records);
+    pub fn vertical_tab(&mut self) {
+        self.end_shift_out();
+        if self.state.vertical_never_set {
+            return self.line_feed();
         }
-        if self.vertical.count == 0 {
-            return self.carriage_return(records);
+        if self.state.vertical.count == 0 {
+            return self.carriage_return();
         }
-        let next = self.vertical.list().iter().find(|&&stop| stop > self.down);
+        let below = |stop: &&u32| **stop > self.state.down;
+        let next = self.state.vertical.list().iter().find(below);
         match next {
-            Some(&stop) if stop < self.edge() => {
-                self.down = stop;
-                self.across = self.left;
-                records.line(self.row(), 0);
+            Some(&stop) if stop < self.state.edge() => {
+                self.state.across = self.state.left;
+                self.go_down(stop);
+                self.records.line(self.row, 0);
             }
-            _ => self.form_feed(records),
+            _ => self.form_feed(),
         }
     }
 
     /// HT: to the next horizontal stop, at the present column width.
-    pub(crate) fn horizontal_tab(&mut self) -> Result<(), Reason> {
-        let width = self.column_width();
-        let places = self.horizontal.list().iter();
+    pub fn horizontal_tab(&mut self) -> Result<(), Reason> {
+        let (left, width) = (self.state.left, self.column_width);
+        let places = self.state.horizontal.list().iter();
         let next = places
-            .map(|column| self.left + column * width)
-            .find(|&place| place > self.across)
-            .filter(|&place| place <= self.right);
-        self.across = next.ok_or(Reason::NoStop)?;
+            .map(|column| left + column * width)
+            .find(|&place| place > self.state.across)
+            .filter(|&place| place <= self.state.right);
+        self.state.across = next.ok_or(Reason::NoStop)?;
         Ok(())
     }
 
     /// BS and ESC \: a move from the place across.
-    pub(crate) fn move_across(&mut self, units: i32) -> Result<(), Reason> {
-        match self.across.checked_add_signed(units) {
+    pub fn move_across(&mut self, units: i32) -> Result<(), Reason> {
+        match self.state.across.checked_add_signed(units) {
             Some(place) => self.go_across(place),
             None => Err(Reason::PastLimits),
         }
     }
 
     /// Goes to a place across, which must be between the margins.
-    pub(crate) fn go_across(&mut self, place: u32) -> Result<(), Reason> {
-        if !(self.left..=self.right).contains(&place) {
+    pub fn go_across(&mut self, place: u32) -> Result<(), Reason> {
+        if !(self.state.left..=self.state.right).contains(&place) {
             return Err(Reason::PastLimits);
         }
-        self.across = place;
+        self.state.across = place;
         Ok(())
     }
 
     /// ESC l and ESC Q: new margins, if the bounds hold.
-    pub(crate) fn set_margins(
-        &mut self,
-        left: u32,
-        right: u32,
-        records: &mut Records,
-    ) -> Result<(), Reason> {
+    pub fn set_margins(&mut self, left: u32, right: u32) -> Result<(), Reason> {
         if left >= right || right > PAPER_WIDTH {
             return Err(Reason::PastLimits);
         }
-        self.left = left;
-        self.right = right;
-        self.across = left;
-        records.clear();
+        self.state.left = left;
+        self.state.right = right;
+        self.state.across = left;
+        self.records.clear();
         Ok(())
     }
 
     /// ESC C: a new page length, at whose top the paper stands.
-    pub(crate) fn set_page_length(
-        &mut self,
-        length: u32,
-        records: &mut Records,
-    ) -> Result<(), Reason> {
+    pub fn set_page_length(&mut self, length: u32) -> Result<(), Reason> {
         if !(SHORTEST_PAGE..=LONGEST_PAGE).contains(&length) {
             return Err(Reason::PastLimits);
         }
-        self.page_length = length;
-        self.skip = 0;
-        self.down = 0;
-        records.line(0, NEW_TOP);
+        self.state.page_length = length;
+        self.state.skip = 0;
+        self.go_down(0);
+        self.records.line(0, NEW_TOP);
         Ok(())
     }
 
     /// ESC N: the skip at the page's end.
-    pub(crate) fn set_skip(&mut self, skip: u32) -> Result<(), Reason> {
-        match self.page_length.checked_sub(skip) {
-            Some(edge) if edge >= SHORTEST_PAGE && self.down < edge => self.skip = skip,
+    pub fn set_skip(&mut self, skip: u32) -> Result<(), Reason> {
+        match self.state.page_length.checked_sub(skip) {
+            Some(edge) if edge >= SHORTEST_PAGE && self.state.down < edge => self.state.skip = skip,
             _ => return Err(Reason::PastLimits),
         }
         Ok(())
     }
 
     /// ESC @: as at power-on, keeping resolution and automatic line feed.
-    pub(crate) fn initialize(&mut self, records: &mut Records) {
-        *self = State::power_on(self.resolution, self.automatic_line_feed);
-        records.line(0, NEW_TOP);
+    pub fn initialize(&mut self) {
+        let (resolution, feed) = (self.state.resolution, self.state.automatic_line_feed);
+        self.set_width(|state| *state = State::power_on(resolution, feed));
+        self.go_down(0);
+        self.records.line(0, NEW_TOP);
     }
 }

@@ -17,7 +17,7 @@ pub enum Reason {
 }
 
 /// The fields of a record; unnamed ones are 0.
-#[derive(Default)]
+#[derive(Clone, Copy, Default)]
 pub struct Record {
     pub mark: [u8; 2],
     pub column: u16,
@@ -29,28 +29,45 @@ pub struct Record {
     pub advance: u16,
 }
 
+/// A record as two numbers, low byte first: its bytes 0 to 7, and 8 to 13.
+#[derive(Clone, Copy)]
+pub struct Words {
+    head: u64,
+    tail: u64,
+}
+
 impl Record {
-    fn bytes(&self) -> [u8; RECORD_SIZE] {
-        let [column, column_high] = self.column.to_le_bytes();
-        let [row, row_high] = self.row.to_le_bytes();
-        let [style, style_high] = self.style.to_le_bytes();
-        let [advance, advance_high] = self.advance.to_le_bytes();
-        [
-            self.mark[0],
-            self.mark[1],
-            column,
-            column_high,
-            row,
-            row_high,
-            self.byte,
-            self.font,
-            style,
-            style_high,
-            self.country,
-            0,
-            advance,
-            advance_high,
-        ]
+    #[inline(always)]
+    pub fn words(&self) -> Words {
+        Words {
+            head: u64::from(u16::from_le_bytes(self.mark))
+                | u64::from(self.column) << 16
+                | u64::from(self.row) << 32
+                | u64::from(self.byte) << 48
+                | u64::from(self.font) << 56,
+            tail: u64::from(self.style)
+                | u64::from(self.country) << 16
+                | u64::from(self.advance) << 32,
+        }
+    }
+}
+
+impl Words {
+    /// With a column and a byte in place of 0.
+    #[inline(always)]
+    pub fn with(self, column: u16, byte: u8) -> Words {
+        Words {
+            head: self.head | u64::from(column) << 16 | u64::from(byte) << 48,
+            ..self
+        }
+    }
+
+    #[inline(always)]
+    pub fn bytes(self) -> [u8; RECORD_SIZE] {
+        let mut bytes = [0; RECORD_SIZE];
+        bytes[..8].copy_from_slice(&self.head.to_le_bytes());
+        bytes[8..].copy_from_slice(&self.tail.to_le_bytes()[..6]);
+        bytes
     }
 }
 
@@ -74,10 +91,23 @@ impl<'a> Records<'a> {
     }
 
     /// Writes one record; the caller has seen to the room.
+    #[inline(always)]
     pub fn put(&mut self, record: &Record) {
         let end = self.written + RECORD_SIZE;
-        self.out[self.written..end].copy_from_slice(&record.bytes());
+        self.out[self.written..end].copy_from_slice(&record.words().bytes());
         self.written = end;
+    }
+
+    /// The places of the next records, one for each byte that may be read: the
+    /// last record's room stays free.
+    pub fn places(&mut self) -> std::slice::ChunksExactMut<'_, u8> {
+        let end = self.out.len() - RECORD_SIZE;
+        self.out[self.written..end].chunks_exact_mut(RECORD_SIZE)
+    }
+
+    /// So many of these places were written to.
+    pub fn wrote(&mut self, records: usize) {
+        self.written += records * RECORD_SIZE;
     }
 
     /// LN: a feed to a new row, with the pages turned.

@@ -176,12 +176,12 @@ impl State {
         }
     }
 
-    /// The width that stops and margins count in.
-    pub(crate) fn column_width(&self) -> u32 {
+    /// The width that stops and margins count in, of letters so far apart.
+    pub(crate) fn column_width(&self, advance: u32) -> u32 {
         if self.proportional {
             360
         } else {
-            self.advance()
+            advance
         }
     }
 
@@ -194,6 +194,15 @@ impl State {
             (false, true, 10) => 216,
             (false, true, 12) => 180,
             (false, _, _) => 240,
+        }
+    }
+
+    /// Whether a command's first byte is a letter.
+    pub(crate) fn is_letter(&self, byte: u8) -> bool {
+        match byte {
+            0x20..=0x7E | 0xA0..=0xFF => true,
+            0x80..=0x9F => self.upper_codes_print,
+            _ => false,
         }
     }
 
@@ -236,5 +245,14 @@ fn every_eight_columns() -> Stops {
 
 /// The rounding rule, from units to dots.
 fn dot(units: u32, per_inch: u32) -> u16 {
-    ((units * per_inch + 1_800) / 3_600) as u16
+    whole_dots(dot_parts(units, per_inch))
+}
+
+/// So many units in parts of a dot, of which it has 3,600, and half a dot.
+pub(crate) fn dot_parts(units: u32, per_inch: u32) -> u32 {
+    units * per_inch + 1_800
+}
+
+pub(crate) fn whole_dots(parts: u32) -> u16 {
+    (parts / 3_600) as u16
 }

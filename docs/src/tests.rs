@@ -6,7 +6,7 @@ mod hand_checked;
 mod open_points;
 
 use crate::records::RECORD_SIZE;
-use crate::{read, start, State, ROOM_FOR_A_BYTE};
+use crate::{read_in_runs, start, Report, State, ROOM_FOR_A_BYTE};
 
 /// A record taken apart.
 #[derive(Clone, Copy, PartialEq, Eq, Debug)]
@@ -88,6 +88,16 @@ fn apart(record: &[u8]) -> Seen {
         country: record[10],
         advance: word(12),
     }
+}
+
+/// Reads byte by byte, and sees that reading in runs gives the same.
+fn read(state: &mut State, input: &[u8], allowance: usize, out: &mut [u8]) -> Report {
+    let mut in_runs = (state.clone(), out.to_vec());
+    let report_in_runs = read_in_runs(&mut in_runs.0, input, allowance, &mut in_runs.1);
+    let report = crate::read(state, input, allowance, out);
+    assert_eq!(report_in_runs, report);
+    assert_eq!((&in_runs.0, &in_runs.1[..]), (&*state, &*out));
+    report
 }
 
 /// Reads all of the input with room enough.

@@ -1,72 +1,153 @@
-//! Reads a slot card in pieces of five bytes and prints where RELEASED stands,
-//! and under which slot, for 300 dots and for 203.
+//! Reads ESC/P from standard input in pieces of five bytes and shows the page
+//! as it stands at the end: its lines of letters, how many bytes of images are
+//! on it, and where RELEASED stands, with the slot number above it.
+//!
+//! ```text
+//! card [DOTS] < INPUT     at 300 dots to the inch, or 203
+//! ```
 
-use ierbulosc::{Settings, State, INPUT_USED, RECORD_SIZE, ROOM};
+use ierbulosc::{records, Record, Settings, State, INPUT_USED, ROOM};
+use std::io::Read;
 use std::process::ExitCode;
 
-const CARD: &[u8] = b"\x1BD\x0A\x14\x1E\x28\x32\x3C\x46\x00\
-    SLOT\t1\t2\t3\t4\t5\t6\t7\r\n\
-    STATE\tLOCKED\tLOCKED\tLOCKED\tRELEASED\tLOCKED\tLOCKED\tLOCKED\r\n\x0C";
 const WORD: &[u8] = b"RELEASED";
 const PIECE: usize = 5;
 
-/// A letter of the card and its place in dots.
+/// A letter of the page, its place in dots and its width in units.
 #[derive(Clone, Copy)]
 struct Letter {
     byte: u8,
     column: u16,
     row: u16,
+    advance: u16,
+}
+
+/// A page: its letters, and how many image bytes it has.
+#[derive(Default)]
+struct Page {
+    letters: Vec<Letter>,
+    images: usize,
+    /// As many of both are there for good: a CL voids only what came after.
+    line: (usize, usize),
+}
+
+impl Page {
+    /// What a record does to the page.
+    fn take(&mut self, record: Record) {
+        match record {
+            Record::Tx {
+                column,
+                row,
+                byte,
+                advance,
+                ..
+            } => self.letters.push(Letter {
+                byte,
+                column,
+                row,
+                advance,
+            }),
+            Record::Im { .. } => self.images += 1,
+            Record::Ln { pages, .. } => {
+                // A page turned, or a new top: another sheet.
+                if pages > 0 {
+                    *self = Page::default();
+                }
+                self.line = (self.letters.len(), self.images);
+            }
+            Record::Cl => {
+                self.letters.truncate(self.line.0);
+                self.images = self.line.1;
+            }
+            Record::No { .. } => {}
+        }
+    }
+
+    /// The lines of letters, with a space between those that stand apart.
+    fn lines(&self, dots: u32) -> Vec<String> {
+        let lines = self.letters.chunk_by(|one, next| one.row == next.row);
+        let line = |letters: &[Letter]| {
+            let mut text = format!("row {}: ", letters[0].row);
+            let mut before = letters[0];
+            for &letter in letters {
+                if stands_apart(&before, &letter, dots) {
+                    text.push(' ');
+                }
+                text.push(char::from(letter.byte));
+                before = letter;
+            }
+            text
+        };
+        lines.map(line).collect()
+    }
+
+    /// Where the word stands, and the slot number above its first letter.
+    fn released(&self) -> Option<String> {
+        let is_word = |part: &[Letter]| part.iter().map(|letter| letter.byte).eq(WORD.to_vec());
+        let mut words = self.letters.windows(WORD.len());
+        let Letter { column, row, .. } = words.find(|part| is_word(part))?[0];
+        let above = |letter: &&Letter| letter.column == column && letter.row < row;
+        let slot = char::from(self.letters.iter().rfind(above)?.byte);
+        Some(format!(
+            "RELEASED at column {column}, row {row}, under slot {slot}"
+        ))
+    }
+}
+
+/// Whether a letter stands apart from the one before it, by more than a dot
+/// that rounding may give.
+fn stands_apart(before: &Letter, letter: &Letter, dots: u32) -> bool {
+    let end = u32::from(before.column) * 3_600 + u32::from(before.advance) * dots;
+    u32::from(letter.column) * 3_600 > end + 3_600
 }
 
 fn main() -> ExitCode {
-    for dots in [300, 203] {
-        let Some(line) = letters(dots).and_then(|letters| released(&letters)) else {
-            eprintln!("card: RELEASED is not on the card");
-            return ExitCode::FAILURE;
-        };
-        println!("{line}");
+    let dots = std::env::args().nth(1);
+    let dots = dots.map_or(300, |word| word.parse().unwrap_or(0));
+    match page(dots) {
+        Ok(page) => show(&page, dots),
+        Err(problem) => {
+            eprintln!("card: {problem}");
+            ExitCode::FAILURE
+        }
     }
-    ExitCode::SUCCESS
 }
 
-/// The letters that are placed, at so many dots to the inch.
-fn letters(resolution: u32) -> Option<Vec<Letter>> {
+/// The page that standard input leaves, at so many dots to the inch.
+fn page(resolution: u32) -> Result<Page, String> {
     let (answer, mut state) = State::start(&Settings {
         resolution,
         ..Settings::default()
     });
     if answer != INPUT_USED {
-        return None;
+        return Err("300 or 203 dots to the inch".to_string());
     }
-    let mut letters = Vec::new();
-    for piece in CARD.chunks(PIECE) {
+    let mut input = Vec::new();
+    let mut stdin = std::io::stdin().lock();
+    stdin
+        .read_to_end(&mut input)
+        .map_err(|error| error.to_string())?;
+    let mut page = Page::default();
+    for piece in input.chunks(PIECE) {
         let mut out = [0; PIECE * ROOM];
         let report = state.read(piece, piece.len(), &mut out);
         if report.answer != INPUT_USED {
-            return None;
+            return Err(format!("answer {}", report.answer));
         }
-        let records = out[..report.written].chunks_exact(RECORD_SIZE);
-        letters.extend(records.filter(|r| r.starts_with(b"TX")).map(letter));
+        records(&out[..report.written]).for_each(|record| page.take(record));
     }
-    Some(letters)
+    Ok(page)
 }
 
-fn letter(record: &[u8]) -> Letter {
-    Letter {
-        byte: record[6],
-        column: u16::from_le_bytes([record[2], record[3]]),
-        row: u16::from_le_bytes([record[4], record[5]]),
+fn show(page: &Page, dots: u32) -> ExitCode {
+    for line in page.lines(dots) {
+        println!("{line}");
     }
-}
-
-/// Where the word stands, and the slot number above its first letter.
-fn released(letters: &[Letter]) -> Option<String> {
-    let is_word = |part: &[Letter]| part.iter().map(|letter| letter.byte).eq(WORD.to_vec());
-    let word = letters.windows(WORD.len()).find(|part| is_word(part))?;
-    let Letter { column, row, .. } = word[0];
-    let above = |letter: &&Letter| letter.column == column && letter.row < row;
-    let slot = char::from(letters.iter().rfind(above)?.byte);
-    Some(format!(
-        "RELEASED at column {column}, row {row}, under slot {slot}"
-    ))
+    println!("image bytes: {}", page.images);
+    let Some(line) = page.released() else {
+        eprintln!("card: RELEASED is not on the card");
+        return ExitCode::FAILURE;
+    };
+    println!("{line}");
+    ExitCode::SUCCESS
 }

@@ -6,21 +6,24 @@
 //! allocates nothing and always returns; all it knows is in [`State`].
 //!
 //! ```
-//! use ierbulosc::{Settings, State, INPUT_USED, RECORD_SIZE, ROOM};
+//! use ierbulosc::{records, Record, Settings, State, INPUT_USED, ROOM};
 //!
 //! let (answer, mut state) = State::start(&Settings::default());
 //! assert_eq!(answer, INPUT_USED);
 //! let mut out = [0; 2 * ROOM];
 //! let report = state.read(b"A\n", usize::MAX, &mut out);
 //! assert_eq!((report.answer, report.read), (INPUT_USED, 2));
-//! let mut records = out[..report.written].chunks_exact(RECORD_SIZE);
-//! assert!(records.next().is_some_and(|record| record.starts_with(b"TX")));
-//! assert!(records.next().is_some_and(|record| record.starts_with(b"LN")));
+//! let mut records = records(&out[..report.written]);
+//! let letter = records.next();
+//! assert!(matches!(letter, Some(Record::Tx { column: 0, row: 0, byte: b'A', .. })));
+//! assert_eq!(records.next(), Some(Record::Ln { row: 50, pages: 0 }));
 //! assert_eq!(records.next(), None);
 //! ```
 
+mod records;
 mod state;
 
+pub use records::*;
 pub use state::*;
 
 /// All of the input was read; of a start: it is done.
@@ -34,27 +37,6 @@ pub const SETTINGS_REFUSED: u8 = 3;
 /// The state is none that the library leaves.
 pub const STATE_REFUSED: u8 = 4;
 
-/// The bytes of a record.
-///
-/// Numbers of two bytes have the low byte first: the mark (two letters), dot
-/// column (2), dot row (2), byte (1), font (1), style (2), country (1), zero
-/// (1), advance in units (2).
-/// - TX is a letter, with all fields.
-/// - IM is a byte of image data, with column, row, byte and advance.
-/// - LN is a line fed or a page turned: the new row, and in byte the pages
-///   turned, or 255 for a new top.
-/// - CL: the TX and IM since the last LN, CL or start are void.
-/// - NO is what was passed over: in byte the letter, image byte or list byte,
-///   else the control byte or the escape's second byte, as received; in style
-///   the reason: 1 unlisted; 2 argument or setting not allowed; 3 past margin, page or
-///   stop limits; 4 letter or image column does not fit; 5 no stop to the
-///   right.
-///
-/// Fields that are not named are 0. Style bits, from the lowest: bold, double
-/// strike, italic, underline, superscript, subscript, double width, double
-/// height, two bits of the ESC q number, proportional, reduced, italic code
-/// table, download set.
-pub const RECORD_SIZE: usize = 14;
 /// The room that must be left in the output for a byte to be read: it writes
 /// at most two records.
 pub const ROOM: usize = 2 * RECORD_SIZE;
@@ -87,8 +69,8 @@ extern "C" {
         input: *const u8,
         input_length: usize,
         allowance: usize,
-        output: *mut u8,
-        output_length: usize,
+        out: *mut u8,
+        out_length: usize,
         counts: *mut Counts,
     ) -> u8;
 }
@@ -101,7 +83,7 @@ impl State {
     /// - [`SETTINGS_REFUSED`]: the resolution is neither 300 nor 203; the
     ///   power-on state of [`Settings::default`].
     pub fn start(settings: &Settings) -> (u8, State) {
-        let mut state = State::ZERO;
+        let mut state = State::from_registers([0; REGISTERS]);
         // SAFETY: the pointers are to whole structs, the state's to one that
         // no one else holds during the call. Its fields are plain numbers, so
         // that whatever the library writes there is a State again. The library
@@ -117,10 +99,9 @@ impl State {
     /// - On these three answers `self` is the new state; `read` bytes of the
     ///   input were read; `written` bytes were written at the beginning of
     ///   `out`. To go on after the last two, pass the rest of the input.
-    /// - [`STATE_REFUSED`]: `self` is none that the library leaves: a field
-    ///   has a value that is not given for it, or the whole is outside the
-    ///   printer's bounds. This is tested before all else. `self` stays as it
-    ///   was, and both counts are 0.
+    /// - [`STATE_REFUSED`]: `self` is none that the library leaves: a number is
+    ///   not as given for it. This is tested before all else. `self` stays as
+    ///   it was, and both counts are 0.
     ///
     /// What `out` holds past `written` stays as it was. Input may come in
     /// pieces of any length, cut anywhere, even inside a command: the records

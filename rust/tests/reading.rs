@@ -1,8 +1,9 @@
 //! The library through the safe cover.
 
 use ierbulosc::{
-    Settings, State, TabStops, ALLOWANCE_USED, INPUT_USED, NOTHING, OUTPUT_FULL, RECORD_SIZE, ROOM,
-    SETTINGS_REFUSED, STATE_REFUSED, STOP_LIST,
+    records, Record, Settings, State, Stops, ALLOWANCE_USED, COLUMNS, INPUT_USED, NEW_TOP, NOTHING,
+    NOT_ALLOWED, OUTPUT_FULL, RECORD_SIZE, REGISTERS, ROOM, SETTINGS_REFUSED, STATE_REFUSED,
+    STOP_LIST, UNLISTED,
 };
 
 const FILL: u8 = 0xE5;
@@ -23,11 +24,27 @@ fn starts() {
     for auto_feed in [1, 2, 256, 1 << 31, u32::MAX] {
         let (answer, state) = start(203, auto_feed);
         assert_eq!(answer, INPUT_USED);
-        assert_eq!((state.setup.resolution, state.setup.auto_feed), (203, 1));
+        assert_eq!((state.dots_across, state.dots_down), (203, 200));
+        assert_eq!(state.auto_feed, 1);
     }
     assert_eq!(start(300, 0), (INPUT_USED, power_on()));
-    assert_eq!(start(204, 1), (SETTINGS_REFUSED, power_on()));
-    assert_eq!(start(65_536 + 300, 1), (SETTINGS_REFUSED, power_on()));
+    for refused in [202, 204, 299, 301, 65_536 + 300] {
+        assert_eq!(start(refused, 1), (SETTINGS_REFUSED, power_on()));
+    }
+}
+
+/// Document 01, 'Power-on', number by number.
+#[test]
+fn power_on_by_numbers() {
+    let state = power_on();
+    let mut expected = [0; REGISTERS];
+    expected[7..14].copy_from_slice(&[28_800, 39_600, 0, 600, 300, 300, 0]);
+    expected[14] = 10;
+    expected[33..37].copy_from_slice(&[1, 0, 360, 360]);
+    expected[38..48].copy_from_slice(&[9, 8, 16, 24, 32, 40, 48, 56, 64, 72]);
+    assert_eq!(state.registers(), expected);
+    assert_eq!(State::from_registers(expected), state);
+    assert_eq!(state.columns.held(), [8, 16, 24, 32, 40, 48, 56, 64, 72]);
 }
 
 #[test]
@@ -42,7 +59,57 @@ fn records_byte_for_byte() {
     let expected = "54580000000041000000000068014c4e000032000000000000000000";
     assert_eq!(hex, expected);
     assert!(rest.iter().all(|&byte| byte == FILL));
-    assert_eq!((state.place.across, state.place.down), (0, 600));
+    assert_eq!((state.across, state.down), (0, 600));
+}
+
+#[test]
+fn records_by_name() {
+    let mut state = power_on();
+    let mut out = [FILL; 30 * ROOM];
+    let input = b"\x1BE\x1Bk\x07\x1BR\x0D\x0A\x0EB\x1Bl\x00\x1BK\x01\x00\x55\x1BA\x56\x01\x1B@";
+    let report = state.read(input, usize::MAX, &mut out);
+    assert_eq!((report.answer, report.read), (INPUT_USED, input.len()));
+    let came: Vec<Record> = records(&out[..report.written]).collect();
+    let letter = Record::Tx {
+        column: 0,
+        row: 50,
+        byte: b'B',
+        font: 7,
+        style: 0x41,
+        country: 13,
+        advance: 720,
+    };
+    let image = Record::Im {
+        column: 0,
+        row: 50,
+        byte: 0x55,
+        advance: 60,
+    };
+    let passed_over = |byte, reason| Record::No { byte, reason };
+    let expected = [
+        Record::Ln { row: 50, pages: 0 },
+        letter,
+        Record::Cl,
+        image,
+        passed_over(b'A', NOT_ALLOWED),
+        passed_over(1, UNLISTED),
+        Record::Ln {
+            row: 0,
+            pages: NEW_TOP,
+        },
+    ];
+    assert_eq!(came, expected);
+}
+
+#[test]
+fn bytes_that_are_no_record_are_skipped() {
+    let mut bytes = [0; 3 * RECORD_SIZE + 5];
+    bytes[RECORD_SIZE..][..2].copy_from_slice(b"CL");
+    bytes[3 * RECORD_SIZE..][..2].copy_from_slice(b"CL");
+    let mut came = records(&bytes);
+    assert_eq!((came.next(), came.next()), (Some(Record::Cl), None));
+    assert_eq!(came.next(), None);
+    assert_eq!(records(&[]).next(), None);
 }
 
 #[test]
@@ -55,24 +122,25 @@ fn answers_in_order() {
     assert_eq!(answer(b"", 0, 0), (INPUT_USED, 0, 0));
     assert_eq!(answer(b"A", 0, 0), (ALLOWANCE_USED, 0, 0));
     assert_eq!(answer(b"A", 1, ROOM - 1), (OUTPUT_FULL, 0, 0));
+    assert_eq!(answer(b"A", 1, ROOM), (INPUT_USED, 1, RECORD_SIZE));
+    assert_eq!(answer(b"AB", 1, ROOM), (ALLOWANCE_USED, 1, RECORD_SIZE));
     assert_eq!(answer(b"AB", 2, ROOM), (OUTPUT_FULL, 1, RECORD_SIZE));
 }
 
+/// Each register in turn with a number that no state has there.
 #[test]
 fn a_refused_state_stays() {
-    let mut state = power_on();
-    state.style.bold = 2;
-    let before = state;
-    let mut out = [FILL; ROOM];
-    let report = state.read(b"A", 1, &mut out);
-    let came = (report.answer, report.read, report.written);
-    assert_eq!(came, (STATE_REFUSED, 0, 0));
-    assert_eq!((state, out), (before, [FILL; ROOM]));
-}
-
-/// The stops that a list holds.
-fn held(list: &TabStops) -> &[u32] {
-    &list.stops[..list.count as usize]
+    let unseen = |at: usize| (48..71).contains(&at) || (72..REGISTERS).contains(&at);
+    for at in (0..REGISTERS).filter(|&at| !unseen(at)) {
+        let mut registers = power_on().registers();
+        registers[at] += 1 << 31;
+        let mut state = State::from_registers(registers);
+        let mut out = [FILL; ROOM];
+        let report = state.read(b"A", 1, &mut out);
+        let came = (report.answer, report.read, report.written);
+        assert_eq!(came, (STATE_REFUSED, 0, 0), "{at}");
+        assert_eq!((state.registers(), out), (registers, [FILL; ROOM]));
+    }
 }
 
 #[test]
@@ -84,24 +152,25 @@ fn stops_are_gathered_then_in_force() {
         state
     };
     let state = read(b"\x1BD\x05\x0A");
-    assert_eq!(
-        (state.waiting.kind, state.waiting.command),
-        (STOP_LIST, b'D')
-    );
-    assert_eq!(held(&state.stops.gathered), [5, 10]);
+    assert_eq!((state.kind, state.command), (STOP_LIST, b'D'.into()));
+    assert_eq!(state.gathered.held(), [5, 10]);
     let state = read(b"\x00\x1BB\x02\x03");
-    assert_eq!(
-        (state.waiting.kind, state.waiting.command),
-        (STOP_LIST, b'B')
-    );
-    assert_eq!(held(&state.stops.gathered), [1_200, 1_800]);
-    assert_eq!((state.stops.lines.count, state.stops.line_set), (0, 0));
+    assert_eq!((state.kind, state.command), (STOP_LIST, b'B'.into()));
+    assert_eq!(state.gathered.held(), [1_200, 1_800]);
+    assert_eq!((state.lines.count, state.lines_set), (0, 0));
     let state = read(b"\x00");
-    assert_eq!(state.waiting.kind, NOTHING);
-    assert_eq!(held(&state.stops.columns), [5, 10]);
-    assert_eq!(held(&state.stops.lines), [1_200, 1_800]);
-    assert_eq!(
-        (state.stops.line_set, state.stops.gathered),
-        (1, TabStops::NONE)
-    );
+    assert_eq!(state.kind, NOTHING);
+    assert_eq!(state.columns.held(), [5, 10]);
+    assert_eq!(state.lines.held(), [1_200, 1_800]);
+    assert_eq!((state.lines_set, state.gathered), (1, Stops::NONE));
+}
+
+#[test]
+fn held_stops_of_any_count() {
+    let mut list = Stops::NONE;
+    for (count, held) in [(0, 0), (3, 3), (32, 32), (33, 32), (u32::MAX, 32)] {
+        list.count = count;
+        assert_eq!(list.held().len(), held);
+    }
+    assert_eq!(COLUMNS, 32);
 }

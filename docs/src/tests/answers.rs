@@ -1,7 +1,6 @@
 //! The answers 0 to 4 and their order.
 
 use super::*;
-use crate::Report;
 
 /// A report of so many records.
 fn report(answer: u8, read: usize, records: usize) -> Report {

@@ -1,0 +1,181 @@
+//! Arbitrary registers: of arbitrary plain states, and with numbers that stand
+//! for no plain state at all.
+
+use crate::calls::{self, Call};
+use crate::fields::{fields, Field};
+use crate::generate;
+use crate::hold::Case;
+use crate::random::Random;
+use crate::registers::{follows, gathers, registers, unseen_stops};
+use crate::states::{self, ONE_ARGUMENT, TWO_ARGUMENTS};
+use crate::WIDTH;
+use ierbulosc::State as Registers;
+
+/// Registers of any sort, and one to three reading calls on them.
+pub fn case(random: &mut Random) -> Case {
+    let state = Some(arbitrary(random));
+    let mut calls = Vec::new();
+    for _ in 0..random.pick(&[1, 1, 1, 2, 3]) {
+        let call = match random.flag() {
+            true => whole_reading(random),
+            false => calls::a_reading(random, &mut Vec::new()),
+        };
+        calls.push(call);
+    }
+    Case { state, calls }
+}
+
+/// A reading call that reads all of its input.
+fn whole_reading(random: &mut Random) -> Call {
+    let phrases = random.between(1, 16);
+    let input = generate::input(random, phrases);
+    Call::Read {
+        allowance: usize::MAX,
+        room: calls::room_for(input.len()),
+        input,
+    }
+}
+
+/// Registers of any sort; some are accepted, many are not.
+pub fn arbitrary(random: &mut Random) -> Registers {
+    match random.weighted(&[50, 25, 5, 12, 7, 1]) {
+        0 => of_plain(random, states::arbitrary),
+        1 => changed(random),
+        2 => disagreeing(random),
+        3 => with_any_waiting(random),
+        4 => with_unseen_parts(random),
+        _ => any_numbers(random),
+    }
+}
+
+/// The registers of such a plain state, of those that have some.
+fn of_plain(random: &mut Random, make: fn(&mut Random) -> plain_reader::State) -> Registers {
+    loop {
+        let state = make(random);
+        let thirty = random.pick(b"LY");
+        if let Some(registers) = registers(&state, thirty) {
+            return registers;
+        }
+    }
+}
+
+/// Registers inside the bounds.
+pub fn accepted(random: &mut Random) -> Registers {
+    match random.flag() {
+        true => of_plain(random, states::inside),
+        false => of_plain(random, states::reached),
+    }
+}
+
+/// Some registers set to other numbers; mostly those that follow from them are
+/// set too, so that nothing else is wrong.
+fn changed(random: &mut Random) -> Registers {
+    let mut state = accepted(random);
+    for _ in 0..random.pick(&[1, 1, 1, 2, 3]) {
+        change(random, &mut state);
+    }
+    match random.percent(70) {
+        true => follows(&state),
+        false => state,
+    }
+}
+
+/// Sets one register to some number.
+fn change(random: &mut Random, state: &mut Registers) {
+    let mut fields = fields(state);
+    if random.percent(80) {
+        fields.retain(|field| !field.name.is_slot());
+    }
+    let at = random.below(fields.len() as u64) as usize;
+    *fields[at].number = some_number(random, &fields[at]);
+}
+
+/// Numbers beside which a bound lies, but for the paper's width.
+const LIMITS: [u32; 22] = [
+    3, 4, 5, 6, 13, 14, 16, 17, 32, 33, 64, 127, 128, 255, 256, 3_599, 3_600, 5_100, 5_101, 79_199,
+    79_200, 79_201,
+];
+
+/// A number beside the register's own, a small one, a great one or any; or its
+/// own in the low bits, and more above them.
+fn some_number(random: &mut Random, field: &Field) -> u32 {
+    let own = *field.number;
+    match random.below(10) {
+        0 => own.wrapping_add(1),
+        1 => own.wrapping_sub(1),
+        2 => random.pick(&[0, 1]),
+        3 => random.pick(&[2, 255]),
+        4 => random.pick(&[9, 10, 11, 12, 13, 15, 200, 203, 204, 300]),
+        5 => random.pick(&[u32::MAX, 1 << 31, 1 << 16, (1 << 16) - 1, 256, 32, 16]),
+        6 => own.wrapping_add(random.pick(&[1 << 8, 1 << 16, 1 << 24, 1 << 31])),
+        7 => random.byte().into(),
+        8 => match random.below(11) {
+            0 => (WIDTH + random.below(2)) as u32,
+            _ => random.pick(&LIMITS),
+        },
+        _ => random.number() as u32,
+    }
+}
+
+/// Registers inside the bounds but for one that does not follow from the
+/// others: any number, or one that follows from others elsewhere.
+fn disagreeing(random: &mut Random) -> Registers {
+    let mut state = accepted(random);
+    let mut elsewhere = accepted(random);
+    let mut derived = fields(&mut state);
+    derived.retain(|field| field.name.is_derived());
+    let mut others = fields(&mut elsewhere);
+    others.retain(|field| field.name.is_derived());
+    let at = random.below(derived.len() as u64) as usize;
+    *derived[at].number = match random.flag() {
+        true => some_number(random, &derived[at]),
+        false => *others[at].number,
+    };
+    state
+}
+
+/// Something waited for, with numbers of other kinds than its own.
+fn with_any_waiting(random: &mut Random) -> Registers {
+    let command = match random.below(8) {
+        0 => 0,
+        1 => random.byte(),
+        2 => b'C',
+        3 => random.pick(b"BD"),
+        4 => random.pick(b"KLYZ"),
+        5 => random.pick(TWO_ARGUMENTS),
+        6 => random.pick(b"@EJM[O&*\x0F\x1B"),
+        _ => random.pick(ONE_ARGUMENT),
+    };
+    let above = random.pick(&[0, 0, 0, 0, 0, 0, 0, 1 << 8, 1 << 16]);
+    Registers {
+        kind: random.pick(&[0, 1, 2, 2, 3, 3, 4, 4, 5, 5, 6, 7, 8, 255, 256, 258]),
+        command: u32::from(command) + above,
+        argument: random.pick(&[0, 0, 0, 1, 255, 256]),
+        image_columns: random.pick(&[0, 0, 0, 1, 2, 65_535, 65_536, 65_537]),
+        ..accepted(random)
+    }
+}
+
+/// Registers inside the bounds with any numbers where no rule looks.
+fn with_unseen_parts(random: &mut Random) -> Registers {
+    let mut state = accepted(random);
+    if !gathers(&state) && random.flag() {
+        state.gathered.count = states::a_count(random);
+    }
+    for stop in unseen_stops(&mut state) {
+        *stop = match random.flag() {
+            true => random.byte().into(),
+            false => random.number() as u32,
+        };
+    }
+    state
+}
+
+/// Any number in every register.
+fn any_numbers(random: &mut Random) -> Registers {
+    let mut state = accepted(random);
+    for field in fields(&mut state) {
+        *field.number = random.number() as u32;
+    }
+    state
+}

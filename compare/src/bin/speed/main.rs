@@ -1,0 +1,80 @@
+//! Measures the proved reader and both plain ones side by side on equal
+//! inputs: times, instructions, and the proved reader's stack.
+
+mod counts;
+mod readers;
+mod stack;
+mod tables;
+mod times;
+mod watch;
+
+use readers::Reader;
+use std::process::ExitCode;
+
+const HELP: &str = "\
+speed: measures the proved reader, the plain one byte by byte, and the plain one in runs
+
+    speed                  all three below, as Markdown tables
+    speed --times          megabytes in a second, best of several alternating runs, and ratios of times
+    speed --instructions   instructions for a byte, counted by callgrind, and ratios
+    speed --stack          bytes of stack of a start and of a reading call of the proved reader
+    speed --watch FILE     fails where the proved reader takes over a tenth more instructions for a
+                           byte than the file's limit
+    speed --write FILE     writes what it takes now into the file, as the limits
+    speed --runs READER..  one run of each reader on each input, to be counted
+    speed --help           this text
+
+READER is proved, plain or runs.
+";
+
+const BAD_USAGE: u8 = 2;
+
+/// Why something could not be measured, or was not as it should be.
+type Problem = String;
+
+fn main() -> ExitCode {
+    let arguments: Vec<String> = std::env::args_os()
+        .skip(1)
+        .map(|argument| argument.to_string_lossy().into_owned())
+        .collect();
+    let words: Vec<&str> = arguments.iter().map(String::as_str).collect();
+    let done = match *words.as_slice() {
+        [] => all(),
+        ["--help"] => {
+            print!("{HELP}");
+            Ok(())
+        }
+        ["--times"] => times::print(),
+        ["--instructions"] => counts::print(),
+        ["--stack"] => stack::print(),
+        ["--watch", file] => watch::watch(file),
+        ["--write", file] => watch::write(file),
+        ["--runs", ref names @ ..] if names.iter().all(|name| Reader::named(name).is_some()) => {
+            let readers: Vec<Reader> = names.iter().filter_map(|n| Reader::named(n)).collect();
+            counts::run(&readers)
+        }
+        _ => {
+            eprintln!("speed: bad arguments; see speed --help");
+            return ExitCode::from(BAD_USAGE);
+        }
+    };
+    match done {
+        Ok(()) => ExitCode::SUCCESS,
+        Err(problem) => {
+            eprintln!("speed: {problem}");
+            ExitCode::FAILURE
+        }
+    }
+}
+
+/// All tables. Where instructions cannot be counted, the line says so in
+/// their place.
+fn all() -> Result<(), Problem> {
+    times::print()?;
+    println!();
+    if let Err(problem) = counts::print() {
+        println!("Instructions are not counted: {problem}.");
+    }
+    println!();
+    stack::print()
+}

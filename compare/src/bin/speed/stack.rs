@@ -1,0 +1,165 @@
+//! The stack that the proved reader takes: it is called on a stack of its own,
+//! filled with a pattern, and what has changed is looked at.
+
+use crate::readers::{PIECES, RESOLUTIONS};
+use crate::Problem;
+use compare::generate;
+use compare::random::Random;
+use ierbulosc::{Settings, State, ROOM};
+use std::arch::asm;
+use std::ffi::c_void;
+use std::hint::black_box;
+
+const STACK: usize = 64 * 1024;
+const PATTERN: u8 = 0xA5;
+/// The length of the input, in phrases of some bytes.
+const PHRASES: u64 = 4_000;
+
+/// `escp_counts` of the header.
+#[repr(C)]
+struct Counts {
+    read: usize,
+    written: usize,
+}
+
+extern "C" {
+    fn escp_start(state: *mut State, settings: *const Settings) -> u8;
+
+    fn escp_read(
+        state: *mut State,
+        input: *const u8,
+        input_length: usize,
+        allowance: usize,
+        output: *mut u8,
+        output_length: usize,
+        counts: *mut Counts,
+    ) -> u8;
+}
+
+/// A call and what it is made with.
+struct Call<'a> {
+    kind: Kind,
+    state: State,
+    settings: Settings,
+    input: &'a [u8],
+    out: &'a mut [u8],
+}
+
+#[derive(Clone, Copy)]
+enum Kind {
+    Nothing,
+    Start,
+    Read,
+}
+
+/// Prints the table.
+pub fn print() -> Result<(), Problem> {
+    let (start, read) = measure();
+    println!("| Call of the proved reader | Stack below the caller, bytes |");
+    println!("|---|---:|");
+    println!("| start | {start} |");
+    println!("| reading call, the deepest | {read} |");
+    Ok(())
+}
+
+/// The depth of a start, and of the deepest reading call on inputs of every
+/// command, with pieces of every length that is measured.
+fn measure() -> (usize, usize) {
+    let mut stack = vec![PATTERN; STACK];
+    let mut call = Call {
+        kind: Kind::Nothing,
+        state: State::start(&Settings::default()).1,
+        settings: Settings::default(),
+        input: &[],
+        out: &mut [],
+    };
+    let caller = depth(&mut stack, &mut call);
+    call.kind = Kind::Start;
+    let start = depth(&mut stack, &mut call);
+    let input = generate::input(&mut Random::new(1), PHRASES);
+    let mut deepest = caller;
+    for resolution in RESOLUTIONS {
+        for auto_feed in [0, 1] {
+            let settings = Settings {
+                resolution,
+                auto_feed,
+            };
+            for piece in PIECES {
+                deepest = deepest_reading(&mut stack, &settings, &input, piece).max(deepest);
+            }
+        }
+    }
+    (start - caller, deepest - caller)
+}
+
+/// The depth of the deepest reading call on an input in pieces.
+fn deepest_reading(stack: &mut [u8], settings: &Settings, input: &[u8], piece: usize) -> usize {
+    let mut out = vec![0; piece * ROOM];
+    let mut state = State::start(settings).1;
+    let mut deepest = 0;
+    for input in input.chunks(piece) {
+        let mut call = Call {
+            kind: Kind::Read,
+            state,
+            settings: *settings,
+            input,
+            out: &mut out,
+        };
+        deepest = depth(stack, &mut call).max(deepest);
+        state = call.state;
+    }
+    deepest
+}
+
+/// How deep a call goes into the stack, in whole words of it.
+fn depth(stack: &mut [u8], call: &mut Call) -> usize {
+    stack.fill(PATTERN);
+    let call: *mut Call = call;
+    // SAFETY: the stack is long enough for `perform`, and aligned as its
+    // callers must; r12 is kept by what is called, so that the stack comes
+    // back; `perform` is the only one that looks at the call meanwhile.
+    unsafe {
+        let top = stack.as_mut_ptr().add(STACK & !15);
+        asm!(
+            "mov r12, rsp",
+            "mov rsp, {top}",
+            "call {perform}",
+            "mov rsp, r12",
+            top = in(reg) top.sub(top as usize % 16),
+            perform = sym perform,
+            in("rdi") call.cast::<c_void>(),
+            out("r12") _,
+            clobber_abi("C"),
+        );
+    }
+    let untouched = stack.iter().take_while(|&&byte| byte == PATTERN).count();
+    (STACK - untouched).next_multiple_of(8)
+}
+
+/// Makes the call that is pointed to.
+extern "C" fn perform(call: *mut c_void) {
+    // SAFETY: `depth` passes a pointer to a call that it alone holds. The
+    // pointers are to whole values and good for the lengths passed with them.
+    unsafe {
+        let call = &mut *call.cast::<Call>();
+        let mut counts = Counts {
+            read: 0,
+            written: 0,
+        };
+        let answer = match call.kind {
+            Kind::Nothing => 0,
+            Kind::Start => escp_start(&mut call.state, &call.settings),
+            Kind::Read => escp_read(
+                &mut call.state,
+                call.input.as_ptr(),
+                call.input.len(),
+                usize::MAX,
+                call.out.as_mut_ptr(),
+                call.out.len(),
+                &mut counts,
+            ),
+        };
+        // Looked at afterwards, so that no call takes this one's frame over.
+        black_box(answer);
+    }
+}

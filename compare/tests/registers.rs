@@ -1,0 +1,209 @@
+//! The two forms of a state tell the same.
+
+use compare::fields::{differing, fields, set};
+use compare::random::Random;
+use compare::registers::{follows, image_command, normal, plain, registers};
+use compare::{arbitrary, states};
+use ierbulosc::{State as Registers, REGISTERS};
+use plain_reader::{start, Waiting};
+
+fn power_on() -> Registers {
+    registers(&start(300, false).1, b'L').unwrap()
+}
+
+fn names() -> Vec<String> {
+    let mut state = power_on();
+    let all = fields(&mut state);
+    all.iter().map(|field| field.name.to_string()).collect()
+}
+
+/// Whether the interface tells a plain state with this register so, and those
+/// that follow from it, and whether that is accepted.
+fn with(name: &str, number: u32) -> (bool, bool) {
+    let mut state = power_on();
+    set(&mut state, name, number).unwrap();
+    let plain = plain(&follows(&state));
+    (plain.is_some(), plain.is_some_and(|state| state.accepted()))
+}
+
+#[test]
+fn power_on_is_the_librarys() {
+    for resolution in [300, 203] {
+        let settings = ierbulosc::Settings {
+            resolution,
+            auto_feed: 1,
+        };
+        let (_, state) = start(resolution, true);
+        let (_, proved) = Registers::start(&settings);
+        assert_eq!(registers(&state, 0), Some(proved));
+        assert_eq!(plain(&proved), Some(state));
+    }
+}
+
+#[test]
+fn there_and_back() {
+    let mut random = Random::new(1);
+    let mut told = 0;
+    for _ in 0..20_000 {
+        let state = arbitrary::arbitrary(&mut random);
+        let Some(plain) = plain(&state) else {
+            continue;
+        };
+        told += 1;
+        assert_eq!(registers(&plain, state.command as u8), Some(state));
+    }
+    assert!(told > 12_000, "{told}");
+}
+
+#[test]
+fn both_forms_have_the_same_unseen_parts() {
+    let mut random = Random::new(2);
+    for _ in 0..20_000 {
+        let state = arbitrary::arbitrary(&mut random);
+        let Some(told) = plain(&state) else {
+            continue;
+        };
+        let normal_told = plain(&normal(&state)).unwrap();
+        assert_eq!(states::normal(&told), states::normal(&normal_told));
+        assert_eq!(told.accepted(), normal_told.accepted());
+    }
+}
+
+#[test]
+fn numbers_that_stand_for_no_plain_state() {
+    let names = names();
+    let flags = |name: &&String| with(name, 2) == (false, false);
+    let flags: Vec<&String> = names.iter().filter(flags).collect();
+    let waiting = ["kind", "command", "argument", "image_columns"];
+    let derived = ["dots_down", "style", "advance", "column_width"];
+    assert_eq!(flags.len(), 17 + 4, "{flags:?}");
+    for name in flags
+        .iter()
+        .filter(|name| !waiting.contains(&name.as_str()))
+    {
+        assert_eq!(with(name, 0), (true, true));
+        assert_eq!(with(name, 1), (true, true));
+        for number in [255, 256, 257, 1 << 16, 1 << 31, u32::MAX] {
+            assert_eq!(with(name, number), (false, false), "{name} {number}");
+        }
+    }
+    for name in ["pitch", "spacing", "font", "country", "outline"] {
+        assert_eq!(with(name, 256 + 10), (false, false), "{name}");
+    }
+    for (name, number) in [
+        ("dots_across", 204),
+        ("pitch", 11),
+        ("columns.stops[8]", 256),
+    ] {
+        assert_eq!(with(name, number), (true, false), "{name}");
+    }
+    for count in [33, 256, 65_536, u32::MAX] {
+        assert_eq!(with("columns.count", count), (true, false));
+        assert_eq!(with("lines.count", count), (true, false));
+        assert_eq!(with("gathered.count", count), (true, true));
+    }
+    for name in derived {
+        let mut state = power_on();
+        set(&mut state, name, 77).unwrap();
+        assert_eq!(plain(&state), None, "{name}");
+    }
+}
+
+/// What follows from settings, by document 01.
+#[test]
+fn registers_that_follow() {
+    let following = |numbers: &[(&str, u32)]| {
+        let mut state = power_on();
+        for (name, number) in numbers {
+            set(&mut state, name, *number).unwrap();
+        }
+        let state = follows(&state);
+        (state.style, state.advance, state.column_width)
+    };
+    assert_eq!(following(&[]), (0, 360, 360));
+    assert_eq!(following(&[("pitch", 12), ("bold", 1)]), (1, 300, 300));
+    let wide = [("pitch", 15), ("wide_once", 1), ("spacing", 127)];
+    assert_eq!(following(&wide), (1 << 6, 5_560, 5_560));
+    let reduced = [("reduced", 1), ("italic_table", 1)];
+    assert_eq!(following(&reduced), (1 << 11 | 1 << 12, 216, 216));
+    let proportional = [("proportional", 1), ("reduced", 1), ("outline", 3)];
+    assert_eq!(following(&proportional), (0xF00, 180, 360));
+    let all = [("superscript", 1), ("download", 1), ("double_height", 1)];
+    assert_eq!(following(&all).0, 1 << 4 | 1 << 13 | 1 << 7);
+    let mut state = power_on();
+    state.dots_across = 203;
+    assert_eq!(follows(&state).dots_down, 200);
+}
+
+/// Whether something waited for is accepted.
+fn waits(kind: u32, command: u32, argument: u32, image_columns: u32) -> bool {
+    let state = Registers {
+        kind,
+        command,
+        argument,
+        image_columns,
+        ..power_on()
+    };
+    plain(&state).is_some_and(|state| state.accepted())
+}
+
+#[test]
+fn kinds_of_waiting() {
+    let commands = |kind, argument, columns| {
+        let all = (0..=600).filter(|&command| waits(kind, command, argument, columns));
+        let bytes = all.map(|command| u8::try_from(command).unwrap());
+        bytes.collect::<Vec<u8>>()
+    };
+    for kind in [0, 1] {
+        assert_eq!(commands(kind, 0, 0), [0]);
+    }
+    assert_eq!(commands(2, 0, 0), b" !$%+-3ACJKLNQRSWYZ\\klpqtwx");
+    assert_eq!(commands(3, 0, 0), b"$CKLYZ\\");
+    assert_eq!(commands(3, 7, 0), b"$KLYZ\\");
+    assert_eq!(commands(4, 7, 0), b"BD");
+    assert_eq!(commands(5, 0, 65_535), b"KLYZ");
+    for kind in (0..=255).chain([256, 257, 258, u32::MAX]) {
+        let unused = !(3..=4).contains(&kind) && !commands(kind, 1, 0).is_empty();
+        assert!(!unused, "kind {kind} with an argument");
+        let unused = kind != 5 && !commands(kind, 0, 1).is_empty();
+        assert!(!unused, "kind {kind} with columns");
+        assert!(commands(kind, 256, 0).is_empty());
+        assert!(commands(kind, 0, 65_536).is_empty());
+    }
+    assert!(commands(5, 0, 0).is_empty() && commands(5, 1, 1).is_empty());
+    assert!(commands(6, 0, 0).is_empty());
+}
+
+#[test]
+fn image_commands_are_followed() {
+    let (_, state) = start(300, false);
+    assert_eq!(image_command(&state, 0, b"\x1BY\x02\x00L"), b'Y');
+    assert_eq!(
+        image_command(&state, 0, b"\x1BY\x01\x00A\x1BL\x01\x00"),
+        b'L'
+    );
+    let mut state = state;
+    state.waiting = Waiting::Image {
+        units: 30,
+        columns: 9,
+    };
+    assert_eq!(image_command(&state, b'Y', b"\x1BL\x01\x00"), b'Y');
+}
+
+#[test]
+fn every_register_has_a_name_of_its_own() {
+    let mut names = names();
+    assert_eq!(names.len(), REGISTERS);
+    for (at, name) in names.iter().enumerate() {
+        let mut changed = power_on();
+        set(&mut changed, name, 77).unwrap();
+        let found = differing(&changed, &power_on());
+        assert_eq!(found.len(), 1);
+        assert_eq!(found[0].0.to_string(), *name);
+        assert_ne!(changed.registers()[at], power_on().registers()[at]);
+    }
+    names.sort();
+    names.dedup();
+    assert_eq!(names.len(), REGISTERS);
+    assert_eq!(set(&mut power_on(), "width", 1), None);
+}
