@@ -36,7 +36,7 @@ enum {
     ESCP_ALLOWANCE_USED = 1,   /* as many bytes as allowed were read, and input is left */
     ESCP_OUTPUT_FULL = 2,      /* under ESCP_ROOM bytes of output are left, and input and allowance are left */
     ESCP_SETTINGS_REFUSED = 3, /* a start: the resolution is neither 300 nor 203 */
-    ESCP_STATE_REFUSED = 4     /* the state is none that this library leaves */
+    ESCP_STATE_REFUSED = 4     /* the state's numbers are not as given below */
 };
 
 /* Sizes. */
@@ -51,7 +51,7 @@ enum {
 
 /*
  * What a start is asked for. Any numbers whatever may be passed. (A struct, so that a setting can be added without
- * another call: it is then appended, and 0 means that it is as before.)
+ * another call: it is then appended, 0 means that it is as before, and callers are compiled anew.)
  */
 typedef struct escp_settings {
     uint32_t resolution; /* dots to the inch: 300, or 203 (203 across and 200 down) */
@@ -100,7 +100,7 @@ typedef struct escp_state {
 
     /* Where the next letter stands. */
     uint32_t across; /* from the left of the paper; left to right, both included */
-    uint32_t down;   /* from the top of the page; below the edge, which is page - skip */
+    uint32_t down;   /* from the top of the page; less than the edge, which is page - skip */
 
     /* Margins, page length, perforation skip and line amount. */
     uint32_t left;  /* below right */
@@ -176,7 +176,7 @@ uint8_t escp_start(escp_state *state, const escp_settings *settings);
  *
  * 0, 1, 2: *state is the new state; counts->read bytes of the input were read; counts->written bytes were written at the
  *    beginning of the output, a multiple of ESCP_RECORD_SIZE. To go on after 1 or 2, pass the rest of the input.
- * 4: *state is none that this library leaves: a number is not as given above. It is tested before all else. *state stays
+ * 4: a number of *state is not as given above. It is tested before all else. *state stays
  *    as it was, and both counts are 0.
  * The output past counts->written stays as it was. *counts is written whatever the answer; what it held does not matter.
  *

@@ -2,7 +2,7 @@
 //
 // A case is: dots an inch, the allowance and the output length of a reading call, the length of the input (two bytes each, low byte first),
 // automatic line feed (0 or 1), the input. It is read by calls until all is read or one reads nothing; what each of them read is read again
-// by a call for each byte, and by one call to which the state is lent.
+// by a call for each byte, and in two parts by calls to which the state is lent.
 use libc::STDIN_FILENO;
 use libc::STDOUT_FILENO;
 use printer::answers::Answer;
@@ -99,13 +99,39 @@ fn cut_agrees(printer: Printer, input: &[u8], expected: &[u8]) -> bool {
     at == expected.len()
 }
 
-// Whether the input, read by a call to which the state is lent, gives the expected records.
-fn lent_agrees(printer: Printer, input: &[u8], expected: &[u8]) -> bool {
+// Reads a part by a call to which the state is lent, and compares its records with the expected ones, of which there may be more.
+fn read_part(printer: Printer, part: &[u8], expected: &[u8]) -> Step
+    ensures { λ r. ⌜ r .written ≤ length (now (expected .entry)) ⌝ }
+{
     let mut records = [0u8; ROOM];
-    let reading = reader::read_by_lending(printer, input, input.len(), &mut records);
+    let reading = reader::read_by_lending(printer, part, part.len(), &mut records);
     let report = reading.report;
+    let next = reading.printer;
     let written = report.written;
-    check::same(&records[0..written], expected)
+    if expected.len() < written {
+        return Step {
+            printer: next,
+            written: 0,
+            same: false,
+        };
+    }
+    let same = check::same(&records[0..written], &expected[0..written]);
+    Step {
+        printer: next,
+        written,
+        same,
+    }
+}
+
+// Whether the input, read in two parts by calls to which the state is lent, gives the expected records.
+fn lent_agrees(printer: Printer, input: &[u8], expected: &[u8]) -> bool {
+    let half = input.len() / 2;
+    let first = read_part(printer, &input[0..half], expected);
+    let next = first.printer;
+    let at = first.written;
+    let rest = expected.len() - at;
+    let second = read_part(next, &input[half..], &expected[at..]);
+    first.same & second.same & (second.written == rest)
 }
 
 fn say(line: &[u8]) {
