@@ -12,7 +12,7 @@
 
 enum { PIECE = 5, MOST = 1000 };
 
-static const char word[] = "RELEASED";
+#define WORD "RELEASED"
 
 /* A page: its letters and its image bytes, in the order in which they were printed. */
 typedef struct page {
@@ -44,20 +44,38 @@ static bool take_record(page *page, const escp_record *record)
     return true;
 }
 
-/* Reads a piece of input onto the page. */
-static bool take_piece(page *page, escp_state *state, const uint8_t *input, size_t length)
+/* What an answer says is wrong, or NULL. */
+static const char *problem_of(uint8_t answer)
+{
+    switch (answer) {
+    case ESCP_INPUT_USED:
+        return NULL;
+    case ESCP_ALLOWANCE_USED:
+        return "input is left over: the allowance is used";
+    case ESCP_OUTPUT_FULL:
+        return "input is left over: the output is full";
+    case ESCP_SETTINGS_REFUSED:
+        return "300 or 203 dots to the inch";
+    case ESCP_STATE_REFUSED:
+        return "the state is none that the reader left";
+    default:
+        return "an answer that is none of the reader's";
+    }
+}
+
+/* Reads a piece of input onto the page. What is wrong, or NULL. */
+static const char *take_piece(page *page, escp_state *state, const uint8_t *input, size_t length)
 {
     uint8_t out[PIECE * ESCP_ROOM];
     escp_counts counts;
-    if (escp_read(state, input, length, length, out, sizeof out, &counts) != ESCP_INPUT_USED)
-        return false;
+    const char *problem = problem_of(escp_read(state, input, length, length, out, sizeof out, &counts));
     for (size_t at = 0; at < counts.written; at += ESCP_RECORD_SIZE) {
         escp_record record;
         escp_fill_record(&record, out + at);
         if (!take_record(page, &record))
-            return false;
+            return "more than a page holds";
     }
-    return true;
+    return problem;
 }
 
 /* Whether a letter stands apart from the one before it, by more than a dot that rounding may give. */
@@ -90,8 +108,8 @@ static void print_lines(const page *page, uint32_t dots)
 /* Whether the word's letters stand here, one after the other. */
 static bool is_word(const page *page, size_t at)
 {
-    for (size_t letter = 0; word[letter] != '\0'; letter++, at++) {
-        if (at >= page->count || page->placed[at].mark != ESCP_TX || page->placed[at].byte != word[letter])
+    for (size_t letter = 0; WORD[letter] != '\0'; letter++, at++) {
+        if (at >= page->count || page->placed[at].mark != ESCP_TX || page->placed[at].byte != WORD[letter])
             return false;
     }
     return true;
@@ -107,13 +125,20 @@ static bool print_released(const page *page)
         for (size_t above = at; above-- > 0;) {
             const escp_record *slot = &page->placed[above];
             if (slot->mark == ESCP_TX && slot->column == first->column && slot->row < first->row) {
-                printf("%s at column %u, row %u, under slot %c\n", word, (unsigned)first->column,
+                printf("%s at column %u, row %u, under slot %c\n", WORD, (unsigned)first->column,
                        (unsigned)first->row, slot->byte);
                 return true;
             }
         }
     }
     return false;
+}
+
+/* Says what is wrong. */
+static int fail(const char *problem)
+{
+    fprintf(stderr, "card: %s\n", problem);
+    return 1;
 }
 
 int main(int argc, char **argv)
@@ -123,23 +148,15 @@ int main(int argc, char **argv)
     escp_state state;
     uint8_t input[PIECE];
     size_t length;
+    const char *problem;
 
     if (argc > 1)
         settings.resolution = (uint32_t)strtoul(argv[1], NULL, 10);
-    if (escp_start(&state, &settings) != ESCP_INPUT_USED) {
-        fputs("card: 300 or 203 dots to the inch\n", stderr);
-        return 1;
-    }
-    while ((length = fread(input, 1, PIECE, stdin)) > 0) {
-        if (!take_piece(&shown, &state, input, length)) {
-            fputs("card: more than a page holds\n", stderr);
-            return 1;
-        }
-    }
+    problem = problem_of(escp_start(&state, &settings));
+    while (problem == NULL && (length = fread(input, 1, PIECE, stdin)) > 0)
+        problem = take_piece(&shown, &state, input, length);
+    if (problem != NULL)
+        return fail(problem);
     print_lines(&shown, settings.resolution);
-    if (!print_released(&shown)) {
-        fprintf(stderr, "card: %s is not on the card\n", word);
-        return 1;
-    }
-    return 0;
+    return print_released(&shown) ? 0 : fail(WORD " is not on the card");
 }

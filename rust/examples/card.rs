@@ -6,7 +6,10 @@
 //! card [DOTS] < INPUT     at 300 dots to the inch, or 203
 //! ```
 
-use ierbulosc::{records, Record, Settings, State, INPUT_USED, ROOM};
+use ierbulosc::{
+    records, Record, Settings, State, ALLOWANCE_USED, INPUT_USED, OUTPUT_FULL, ROOM,
+    SETTINGS_REFUSED, STATE_REFUSED,
+};
 use std::io::Read;
 use std::process::ExitCode;
 
@@ -113,15 +116,26 @@ fn main() -> ExitCode {
     }
 }
 
+/// What an answer says is wrong.
+fn done(answer: u8) -> Result<(), String> {
+    let problem = match answer {
+        INPUT_USED => return Ok(()),
+        ALLOWANCE_USED => "input is left over: the allowance is used",
+        OUTPUT_FULL => "input is left over: the output is full",
+        SETTINGS_REFUSED => "300 or 203 dots to the inch",
+        STATE_REFUSED => "the state is none that the reader left",
+        _ => "an answer that is none of the reader's",
+    };
+    Err(problem.to_string())
+}
+
 /// The page that standard input leaves, at so many dots to the inch.
 fn page(resolution: u32) -> Result<Page, String> {
     let (answer, mut state) = State::start(&Settings {
         resolution,
         ..Settings::default()
     });
-    if answer != INPUT_USED {
-        return Err("300 or 203 dots to the inch".to_string());
-    }
+    done(answer)?;
     let mut input = Vec::new();
     let mut stdin = std::io::stdin().lock();
     stdin
@@ -131,9 +145,7 @@ fn page(resolution: u32) -> Result<Page, String> {
     for piece in input.chunks(PIECE) {
         let mut out = [0; PIECE * ROOM];
         let report = state.read(piece, piece.len(), &mut out);
-        if report.answer != INPUT_USED {
-            return Err(format!("answer {}", report.answer));
-        }
+        done(report.answer)?;
         records(&out[..report.written]).for_each(|record| page.take(record));
     }
     Ok(page)

@@ -20,8 +20,11 @@
 //! assert_eq!(records.next(), None);
 //! ```
 
+pub mod interface;
 mod records;
 mod state;
+
+use interface::{escp_read, escp_start, Counts};
 
 pub use records::*;
 pub use state::*;
@@ -52,27 +55,6 @@ pub struct Report {
     /// How many bytes of the output were written, a multiple of
     /// [`RECORD_SIZE`].
     pub written: usize,
-}
-
-/// `escp_counts` of the header.
-#[repr(C)]
-struct Counts {
-    read: usize,
-    written: usize,
-}
-
-extern "C" {
-    fn escp_start(state: *mut State, settings: *const Settings) -> u8;
-
-    fn escp_read(
-        state: *mut State,
-        input: *const u8,
-        input_length: usize,
-        allowance: usize,
-        out: *mut u8,
-        out_length: usize,
-        counts: *mut Counts,
-    ) -> u8;
 }
 
 impl State {

@@ -5,7 +5,7 @@
 use ierbulosc::{Record, RECORD_SIZE};
 
 const HEADER: &str = include_str!("../../include/escp.h");
-const FUNCTIONS: &str = include_str!("../src/lib.rs");
+const FUNCTIONS: &str = include_str!("../src/interface.rs");
 const STRUCTS: &str = include_str!("../src/state.rs");
 const LAYOUT: &str = include_str!("../../crates/registers/src/lib.rt");
 const EXPORTS: &str = include_str!("../../crates/ierbulosc/src/lib.rt");
@@ -206,7 +206,7 @@ fn c_functions() -> Vec<Function> {
 fn rust_functions() -> Vec<Function> {
     let block = between(FUNCTIONS, "extern \"C\" {", "\n}").unwrap();
     let declared = block.split(';').map(spaced).filter_map(|line| {
-        let (name, rest) = line.strip_prefix("fn ")?.split_once('(')?;
+        let (name, rest) = line.split_once("pub fn ")?.1.split_once('(')?;
         let (list, result) = rest.split_once(") -> ")?;
         let one = |one: &str| {
             let (name, kind) = named(one).unwrap();

@@ -2,26 +2,23 @@
 use Prim.Native.Nat.{ℕ, _+_, _-_, _≤_, _<_}
 use mathlib.Core.Path.{_≡_, refl, ap, _∙_}
 use mathlib.Core.Bool.{Bool, true, false}
-use mathlib.Core.List.{List, [], _∷_, _++_}
+use mathlib.Core.List.{List, [], _++_}
 use native.Mathlib.Omega.{arith}
 use lib.ListN.{length, take, drop, length-append, length-drop}
 use lib.Dec.{eqb}
 use lib.Seq.{take-add, take-all, length-take-le}
 use borrow.Author.Tests.{eqb-true, eqb-false}
 use Rattle.printer.specs.Tools.{either, Bytes}
+use Rattle.printer.specs.Accepted.{Ours}
 use Rattle.printer.specs.Bounds.{accepted}
-use Rattle.printer.specs.Steps.{stepOf, stateAfter}
+use Rattle.printer.specs.Steps.{stateAfter}
 use Rattle.printer.specs.declared.state.Printer.{Printer}
 use Rattle.printer.proofs.Choices.{bytes-take, bytes-append, either-elim, either-right}
 use Rattle.printer.proofs.Accepting.{fact-accepted}
-use Rattle.printer.proofs.KeepingSteps.{Ours, steps-ours}
+use Rattle.printer.proofs.Cuts.{state-append}
+use Rattle.printer.proofs.KeepingSteps.{steps-ours}
 use Rattle.listing.specs.Showing.{Shown, SomeShown, FromInput}
 use Rattle.listing.specs.declared.Progress.{Progress}
-
-state-append : (p : Printer) (x y : List ℕ) → stateAfter p (x ++ y) ≡ stateAfter (stateAfter p x) y
-unfolding stateAfter
-state-append p [] y = refl
-state-append p (b ∷ x) y = state-append (stepOf p b) x y
 
 pub shown-none : (p : Printer) (input : List ℕ) → Shown p input p 0
 unfolding stateAfter

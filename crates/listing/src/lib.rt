@@ -32,7 +32,7 @@ pub fn read(printer: Printer, input: &[u8], out: &mut [u8]) -> Reading
 }
 
 // Reads as much as there is room for, and writes the lines of its records.
-pub fn show_some(printer: Printer, input: &[u8]) -> Progress
+fn show_some(printer: Printer, input: &[u8]) -> Progress
     ensures { λ r. ⌜ SomeShown printer (now (input .entry)) r ⌝ }
 {
     let mut records = [0u8; MOST * Record::SIZE];
@@ -51,7 +51,7 @@ pub fn show_some(printer: Printer, input: &[u8]) -> Progress
 }
 
 // Shows a piece of input to its end, or until writing fails.
-pub fn show(printer: Printer, input: &[u8]) -> Progress
+fn show(printer: Printer, input: &[u8]) -> Progress
     ensures { λ r. ⌜ AllShown printer (now (input .entry)) r ⌝ }
 {
     let mut p = printer;

@@ -1,24 +1,11 @@
 // Lists of tab stops: how many they hold, and what their bytes mean.
 use printer::commands::Tabs;
 use printer::settings::Settings;
-use printer::stops::TabStops;
 use printer::units::Units;
 ghost use mathlib.Core.Path.{_≡_};
-ghost use Prim.Native.Nat.{_*_, min};
+ghost use Prim.Native.Nat.{_*_};
 ghost use Rattle.printer.specs.Performing.{stopOf};
 ghost use Rattle.printer.specs.Deciding.{mostStops};
-
-// How many stops are held: the count, or as many as there is room for.
-pub fn held(count: u32) -> usize
-    ensures { λ r. ⌜ r ≡ min count 32 ⌝ }
-{
-    let n = count as usize;
-    if n < TabStops::ROOM {
-        n
-    } else {
-        TabStops::ROOM
-    }
-}
 
 // At most so many stops of a kind.
 pub fn most(k: Tabs) -> u32

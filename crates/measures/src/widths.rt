@@ -37,7 +37,7 @@ fn advance_units(w: Width) -> u32
 }
 
 // Whether letters print at double width: ESC W 1 or SO.
-pub fn double_width(w: Width) -> bool
+pub(crate) fn double_width(w: Width) -> bool
     ensures { λ r. ⌜ r ≡ doubleWidth w ⌝ }
 {
     w.wide | w.wideonce

@@ -13,6 +13,7 @@ use Rattle.printer.specs.Steps.{recordsOver, stepOf, stepRecords}
 use Rattle.printer.specs.PowerOn.{powerOn}
 use Rattle.printer.specs.Calls
 use Rattle.printer.specs.Calls.{isFull, numberOf, setup, setupOf, plainStart, startOf, Run, runOf, callOf, StartCall, ReadCall, bytesOf}
+use Rattle.printer.specs.Accepted.{Ours}
 use Rattle.printer.specs.Promises.{ReadingPromise}
 use Rattle.printer.specs.Reckoning.{origin, begun, Axis, printed}
 use Rattle.printer.specs.Shown.{written}
@@ -20,7 +21,7 @@ use Rattle.printer.specs.Demand3.{Call, started, read, Chain, rulesAfter
 use Rattle.printer.specs.Types.{Answer, Started, Record, Setup, StartSettings, Printer, Resolution}
 use Rattle.printer.proofs.Choices.{pick-elim, each-append, bytes-take}
 use Rattle.printer.proofs.Accepting.{fact-accepted}
-use Rattle.printer.proofs.KeepingSteps.{Ours, steps-ours, power-on-ours}
+use Rattle.printer.proofs.KeepingSteps.{steps-ours, power-on-ours}
 use Rattle.printer.proofs.Writing.{steps-fit}
 use Rattle.printer.proofs.Bytes.{decodedAll-encoded, encodedAll-append}
 use Rattle.printer.proofs.Cuts.{gave, kept-promise, call-writes}
@@ -100,7 +101,7 @@ bytes-in p [] h = tt
 bytes-in p (started c ∷ l) h = bytes-in (c .back .printer) l (h .1)
 bytes-in p (read c ∷ l) h = (h .0 .1, bytes-in (c .left) l (h .1))
 
-start-ours : (settings : StartSettings) → Ours (startOf settings .printer)
+pub start-ours : (settings : StartSettings) → Ours (startOf settings .printer)
 start-ours settings = start-begins settings .keeps .ours
 
 not-four : (p : Printer) (l : List Call) → BytesIn l → Own p l → Ours p → Each NotFour l

@@ -14,6 +14,7 @@ use Rattle.printer.specs.Framing.{frame, imageWait}
 use Rattle.printer.specs.Performing.{Event, done, passed, inside, automatic, Writing, silent, letter, imageByte, feed, clear, recordsBy, Effect, controlAt, effectAt, recordsAt, recordsOf, recordsAll, perform, performAll}
 use Rattle.printer.specs.Deciding.{attempt, decide}
 use Rattle.printer.specs.Steps.{frameAt, eventsIn, nextIn, stepEvents, stepRecords, stepOf, stateAfter, recordsOver, eventsOver}
+use Rattle.printer.specs.Accepted.{Ours}
 use Rattle.printer.specs.InForce.{stepOfImage}
 use Rattle.printer.specs.Reckoning.{Axis, moved, exact, Change, controlChange, changeOf, changeBy, Reckoning, reckon, Printed, printedBy, printedAt, Occurrence, event, printed}
 use Rattle.printer.specs.Shown.{Shown, shown, shownAs, shownBy, writes, written}
@@ -24,7 +25,7 @@ use Rattle.printer.proofs.Frames.{NoImage, clash, Framed, begins, singl
 use Rattle.printer.proofs.Spelling.{EventOf, of-decide}
 use Rattle.printer.proofs.Legal.{forceOf, InStep, Overflowing, Done, Legal, LegalAll, attempted}
 use Rattle.printer.proofs.Keeping.{Writable, Bounded, keep-control, keep-done, keep}
-use Rattle.printer.proofs.KeepingSteps.{Ours, bounded, sound, step-ours}
+use Rattle.printer.proofs.KeepingSteps.{bounded, sound, step-ours}
 use Rattle.printer.proofs.Following.{from, At, Follows, follow-control, follow}
 
 -- Claims, and two of them joined

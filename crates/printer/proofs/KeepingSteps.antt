@@ -17,6 +17,7 @@ use Rattle.printer.specs.Deciding.{mostStops, stopPlace, stopNeeds, atte
 use Rattle.printer.specs.Codes.{spelt, begunBy}
 use Rattle.printer.specs.Steps.{frameAt, eventsIn, nextIn, stepEvents, stepOf, stateAfter}
 use Rattle.printer.specs.Bounds.{settingsBounds, gatheringBounds, waitingBounds, ascending, lastOf, lastStop}
+pub use Rattle.printer.specs.Accepted.{Ours}
 use Rattle.printer.specs.Accepted.{Accepted, Typed, StopsTyped, waitingTyped}
 use Rattle.printer.specs.Spelling.{Classified}
 use Rattle.printer.specs.Types.{Command, Density, Frame, ListPart, Printer, Settings, Setup, Stops, Tabs, Waiting}
@@ -176,11 +177,6 @@ bounded p t a =
 
 pub sound : (p : Printer) (b : ℕ) → b ≤ 255 → Typed p → Accepted p → Sound p (frameAt p b)
 sound p b m t a = sound-at p (p .waiting) b m (bounded p t a) (a .waiting) (t .waiting)
-
--- a state of ours, with what its types give
-pub record Ours (p : Printer) : Type 0 where
-  pub typed : Typed p
-  pub accepted : Accepted p
 
 pub step-ours : (p : Printer) (b : ℕ) → b ≤ 255 → Ours p → Ours (stepOf p b)
 unfolding stepOf stepEvents

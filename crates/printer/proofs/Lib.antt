@@ -2,6 +2,7 @@ pub mod CodeLaws
 pub mod Choices
 pub mod Listed
 pub mod Frames
+pub mod Types
 pub mod Accepting
 pub mod StopLists
 pub mod Legal

@@ -14,13 +14,14 @@ use Rattle.printer.specs.Escapes.{countries}
 use Rattle.printer.specs.Codes.{Received, by, speltAs, showsAs, received, shows}
 use Rattle.printer.specs.Records.{styleOf, letterRecord, imageRecord, feedRecord, clearRecord, passedRecord}
 use Rattle.printer.specs.Decoding.{FitsBytes}
+use Rattle.printer.specs.Accepted.{Ours}
 use Rattle.printer.specs.Performing.{Event, done, passed, inside, automatic, Writing, silent, letter, imageByte, feed, clear, recordsBy, effectAt, controlAt, recordsOf, recordsAll, perform}
 use Rattle.printer.specs.Steps.{frameAt, eventsIn, stepEvents, stepRecords, stepOf, recordsOver}
 use Rattle.printer.specs.Types.{Control, Place, Printer, Resolution, Settings}
 use Rattle.printer.proofs.Choices.{either-elim, each-append}
 use Rattle.printer.proofs.Legal.{Legal, LegalAll}
 use Rattle.printer.proofs.Keeping.{WithinBounds, Writable, Bounded, keep-control, keep-done, keep}
-use Rattle.printer.proofs.KeepingSteps.{Ours, bounded, sound, step-ours}
+use Rattle.printer.proofs.KeepingSteps.{bounded, sound, step-ours}
 
 -- Parts of records
 

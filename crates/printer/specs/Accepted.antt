@@ -34,3 +34,8 @@ pub record Typed (p : Printer) : Type 0 where
   pub font : p .settings .face .font ≤ 255
   pub stops : StopsTyped (p .stops)
   pub waiting : waitingTyped (p .waiting)
+
+-- a state of ours: both
+pub record Ours (p : Printer) : Type 0 where
+  pub typed : Typed p
+  pub accepted : Accepted p

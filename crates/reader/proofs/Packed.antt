@@ -6,6 +6,7 @@ use mathlib.Core.List.{List}
 use lib.ListN.{length, take}
 use Rattle.printer.specs.Tools.{Bytes}
 use Rattle.printer.specs.Bounds.{accepted}
+use Rattle.printer.specs.Accepted.{Ours}
 use Rattle.printer.specs.Calls.{Run, callOf, reportOf}
 use Rattle.printer.specs.Promises.{ReadPromise}
 use Rattle.printer.specs.declared.answers.Report.{Report}
@@ -14,7 +15,7 @@ use Rattle.printer.proofs.Accepting.{accepted-fact}
 use Rattle.printer.proofs.Answering.{read-promise}
 use Rattle.printer.proofs.Choices.{bytes-take}
 use Rattle.printer.proofs.Cuts.{call-steps}
-use Rattle.printer.proofs.KeepingSteps.{Ours, steps-ours}
+use Rattle.printer.proofs.KeepingSteps.{steps-ours}
 use Rattle.registers.specs.State.{Plain, registersOf, printerIn, acceptedIn}
 use Rattle.registers.proofs.State.{registers-read, registers-accepted, plain}
 use Rattle.interpreter.specs.Calls.{runIn, leftIn, outputIn, ReadsRegisters}

@@ -15,9 +15,9 @@ use Rattle.printer.specs.declared.state.Place.{Place}
 use Rattle.printer.specs.declared.state.Printer.{Printer}
 use Rattle.registers.specs.declared.pending.Pending.{Pending}
 use Rattle.registers.specs.Layout.{laid}
-use Rattle.registers.specs.Groups.{isSet, placeIn, setupIn, widthIn, marginsIn, paperIn, settingsIn}
+use Rattle.registers.specs.Groups.{isSet, placeIn, setupIn, marginsIn, paperIn, settingsIn}
 use Rattle.registers.specs.Held.{Held}
-use Rattle.registers.proofs.Laws.{set-flag, resolution-back, width-back, settings-back}
+use Rattle.registers.proofs.Laws.{set-flag, resolution-back, settings-back}
 
 module _ {p : Printer} {v : Pending} {m : List ℕ} (h : Held p v m) where
   pub place-held : placeIn m ≡ p .place
@@ -35,9 +35,6 @@ module _ {p : Printer} {v : Pending} {m : List ℕ} (h : Held p v m) where
   pub setup-held : setupIn m ≡ p .settings .setup
   unfolding laid
   setup-held = rw (h .same) (simp (set-flag, resolution-back))
-
-  pub width-held : widthIn m ≡ p .settings .width
-  width-held = ap widthIn (h .same) ∙ width-back v _ p (h .small)
 
   pub settings-held : settingsIn m ≡ p .settings
   settings-held = ap settingsIn (h .same) ∙ settings-back v _ p (h .small)

@@ -1,70 +1,19 @@
--- What the types of a state give: bytes are below 256, and arrays have their lengths.
-use Prim.Native.Nat.{ℕ, suc, _≤_}
-use mathlib.Core.Path.{_≡_}
-use mathlib.Core.List.{List, [], _∷_}
+-- What the types of a state give of its registers: bytes are below 256, and image columns below 65,536.
+use Prim.Native.Nat.{ℕ, _≤_}
+use mathlib.Core.List.{List}
 use native.Mathlib.Omega.{arith}
-use lib.ListN.{length, getD, length-map}
 use mir.Val.{Val}
-use denote.Builtin.{u8, u16}
+use denote.Builtin.{u16}
 use denote.Laws.{Is}
-use Rattle.printer.specs.Tools.{Bytes}
-use Rattle.printer.specs.Accepted.{waitingTyped, StopsTyped, Typed}
-use Rattle.printer.specs.Codes.{begunBy}
-use Rattle.printer.specs.declared.commands.Begun.{Begun}
 use Rattle.printer.specs.declared.commands.Waiting.{Waiting}
 use Rattle.printer.specs.declared.state.Printer.{Printer}
-use Rattle.printer.specs.declared.stops.Stops.{Stops}
-use Rattle.printer.specs.declared.stops.TabStops.{TabStops}
-use Rattle.printer.proofs.Listed.{one-byte, two-byte}
-use Rattle.printer.proofs.commands.Begun as B
+use Rattle.printer.proofs.Types.{byte, typed}
 use Rattle.printer.proofs.commands.Waiting as W
-use Rattle.printer.proofs.stops.Stops as S
-use Rattle.printer.proofs.stops.TabStops as T
 use Rattle.printer.proofs.state.Printer as P
 use Rattle.registers.specs.State.{imageTyped, Plain}
 
-byte : {n : ℕ} {vs : List Val} → Is u8 n vs → n ≤ 255
-byte h = omega (arith, h .1)
-
 short : {n : ℕ} {vs : List Val} → Is u16 n vs → n ≤ 65535
 short h = omega (arith, h .1)
-
--- a slice of bytes
-pub known-bytes : (l : List ℕ) → ((i : ℕ) → getD l i 0 ≤ 255) → Bytes l
-known-bytes [] h = tt
-known-bytes (b ∷ l) h = (h 0, known-bytes l (λ i. h (suc i)))
-
-list : (l : TabStops) {vs : List Val} → Is T.the-row l vs → length (l .stops) ≡ 32
-list l h = simp length-map at (h .1 .1 .0 .1 .0 .1)
-
-pub stops-typed : (t : Stops) {vs : List Val} → Is S.the-row t vs → StopsTyped t
-stops-typed t h =
-    let f = h .1 .1 in
-    record {
-      columns = list (t .columns) (f .0);
-      lines = list (t .lines) (f .1 .0);
-      gathered = list (t .gathered) (f .1 .1 .1 .0);
-    }
-
-begun : (w : Begun) {vs : List Val} → Is B.the-row w vs → Bytes (begunBy w)
-begun (Begun.One c) h = (one-byte c, tt)
-begun Begun.PageLength h = (omega arith, tt)
-begun Begun.PageInches h = (omega arith, (omega arith, tt))
-begun (Begun.FirstOf c) h = (two-byte c, tt)
-begun (Begun.SecondOf c a) h = (two-byte c, (byte (h .1 .1 .1 .1 .1 .0), tt))
-
-waiting : (w : Waiting) {vs : List Val} → Is W.the-row w vs → waitingTyped w
-waiting Waiting.Nothing h = tt
-waiting Waiting.SecondByte h = tt
-waiting (Waiting.Arguments w) h = begun w (h .1 .1 .1 .1 .0)
-waiting (Waiting.StopList k b) h = byte (h .1 .1 .1 .1 .1 .0)
-waiting (Waiting.ImageData d n) h = tt
-
-pub typed : (p : Printer) {vs : List Val} → Is P.the-row p vs → Typed p
-typed p h =
-    let f = h .1 .1 in
-    let face = f .0 .1 .1 .1 .1 .1 .1 .0 .1 .1 in
-    record { font = byte (face .0); stops = stops-typed (p .stops) (f .1 .1 .0); waiting = waiting (p .waiting) (f .1 .1 .1 .0) }
 
 image : (w : Waiting) {vs : List Val} → Is W.the-row w vs → imageTyped w
 image Waiting.Nothing h = tt

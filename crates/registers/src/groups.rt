@@ -74,7 +74,7 @@ fn pitch_of(n: u32) -> Pitch
     Pitch::Cpi15
 }
 
-pub fn resolution_of(n: u32) -> Resolution
+pub(crate) fn resolution_of(n: u32) -> Resolution
     ensures { λ r. ⌜ r ≡ resolutionOf n ⌝ }
 {
     if n == 300 {
@@ -102,7 +102,7 @@ pub fn setup_in(m: &[u32; COUNT]) -> Setup
     }
 }
 
-pub fn width_in(m: &[u32; COUNT]) -> Width
+pub(crate) fn width_in(m: &[u32; COUNT]) -> Width
     ensures { λ r. ⌜ r ≡ widthIn (now (m .entry)) ⌝ }
 {
     let pitch = pitch_of(m[PITCH]);
@@ -116,7 +116,7 @@ pub fn width_in(m: &[u32; COUNT]) -> Width
     }
 }
 
-pub fn emphasis_in(m: &[u32; COUNT]) -> Emphasis
+fn emphasis_in(m: &[u32; COUNT]) -> Emphasis
     ensures { λ r. ⌜ r ≡ emphasisIn (now (m .entry)) ⌝ }
 {
     Emphasis {
@@ -127,7 +127,7 @@ pub fn emphasis_in(m: &[u32; COUNT]) -> Emphasis
     }
 }
 
-pub fn script_in(m: &[u32; COUNT]) -> Script
+fn script_in(m: &[u32; COUNT]) -> Script
     ensures { λ r. ⌜ r ≡ scriptIn (now (m .entry)) ⌝ }
 {
     Script {
@@ -136,7 +136,7 @@ pub fn script_in(m: &[u32; COUNT]) -> Script
     }
 }
 
-pub fn face_in(m: &[u32; COUNT]) -> Face
+fn face_in(m: &[u32; COUNT]) -> Face
     ensures { λ r. ⌜ r ≡ faceIn (now (m .entry)) ⌝ }
 {
     Face {

@@ -1,6 +1,7 @@
 // The state at power-on.
 use crate::ACROSS;
 use crate::COLUMN_COUNT;
+use crate::COLUMN_STOPS;
 use crate::COUNT;
 use crate::LINE;
 use crate::PAGE;
@@ -47,15 +48,15 @@ fn store_columns(m: &mut [u32; COUNT])
     ensures { λ _. ⌜ now (m .exit) ≡ stores columnCells (now (m .entry)) ⌝ }
 {
     m[COLUMN_COUNT] = 9;
-    m[39] = 8;
-    m[40] = 16;
-    m[41] = 24;
-    m[42] = 32;
-    m[43] = 40;
-    m[44] = 48;
-    m[45] = 56;
-    m[46] = 64;
-    m[47] = 72;
+    m[COLUMN_STOPS] = 8;
+    m[COLUMN_STOPS + 1] = 16;
+    m[COLUMN_STOPS + 2] = 24;
+    m[COLUMN_STOPS + 3] = 32;
+    m[COLUMN_STOPS + 4] = 40;
+    m[COLUMN_STOPS + 5] = 48;
+    m[COLUMN_STOPS + 6] = 56;
+    m[COLUMN_STOPS + 7] = 64;
+    m[COLUMN_STOPS + 8] = 72;
 }
 
 // Stores it over all but what is waited for.

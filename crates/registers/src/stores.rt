@@ -55,7 +55,7 @@ ghost use Rattle.registers.specs.Stores.{stores, placeCells, lengthCells
 
 // How many registers there are: lent as a slice, an array tells its length to a proof.
 pub fn whole(m: &[u32; COUNT]) -> usize
-    ensures { λ r. ⌜ length (now (m .entry)) ≡ registerCount ⌝ }
+    ensures { λ r. ⌜ (r ≡ registerCount) × (length (now (m .entry)) ≡ registerCount) ⌝ }
 {
     let all = &m[..];
     all.len()

@@ -5,6 +5,7 @@ use crate::readers::{PIECES, RESOLUTIONS};
 use crate::Problem;
 use compare::generate;
 use compare::random::Random;
+use ierbulosc::interface::{escp_read, escp_start, Counts};
 use ierbulosc::{Settings, State, ROOM};
 use std::arch::asm;
 use std::ffi::c_void;
@@ -14,27 +15,6 @@ const STACK: usize = 64 * 1024;
 const PATTERN: u8 = 0xA5;
 /// The length of the input, in phrases of some bytes.
 const PHRASES: u64 = 4_000;
-
-/// `escp_counts` of the header.
-#[repr(C)]
-struct Counts {
-    read: usize,
-    written: usize,
-}
-
-extern "C" {
-    fn escp_start(state: *mut State, settings: *const Settings) -> u8;
-
-    fn escp_read(
-        state: *mut State,
-        input: *const u8,
-        input_length: usize,
-        allowance: usize,
-        output: *mut u8,
-        output_length: usize,
-        counts: *mut Counts,
-    ) -> u8;
-}
 
 /// A call and what it is made with.
 struct Call<'a> {

@@ -12,7 +12,7 @@ run-requires c κs =
     record {
       printer = _;
       stale = _;
-      current = begun (i .before .before .before .whole .ensures) (sym (x .0) ∙ i .if1 .taken) (x .1);
+      current = begun (i .before .before .before .whole .ensures .1) (sym (x .0) ∙ i .if1 .taken) (x .1);
     }
 
 returns : tie.Need-returns
@@ -23,7 +23,7 @@ returns c =
     let i = r .before .before .before in
     let x = i .before .examine .ensures in
     let e = sym (x .0) ∙ i .if1 .taken in
-    read-accepted e (r .run .ensures _ _ (begun (i .before .before .before .whole .ensures) e (x .1)))
+    read-accepted e (r .run .ensures _ _ (begun (i .before .before .before .whole .ensures .1) e (x .1)))
     (rw (p .pending-of .ensures) at (s .store-pending .ensures))
 
 returns-2 : tie.Need-returns-2

@@ -5,9 +5,9 @@ use native.Mathlib.Omega.{arith}
 use borrow.Author.Needs.{needs}
 use denote.Ref.{now}
 use lib.ListN.{length}
+use Rattle.printer.specs.Accepted.{Ours}
 use Rattle.printer.proofs.Accepting.{accepted-fact}
-use Rattle.printer.proofs.KeepingSteps.{Ours}
-use Rattle.registers.proofs.Types.{typed, known-bytes}
+use Rattle.printer.proofs.Types.{typed, known-bytes}
 use Rattle.listing.specs.Showing.{Shown}
 use Rattle.listing.proofs.Pieces.{shown-none, fails, goes-on, turn-shown, turn-some}
 use Rattle.listing.proofs.show.Statement.{statement}

@@ -2,7 +2,8 @@
 use native.Mathlib.Omega.{arith}
 use borrow.Author.Needs.{needs}
 use denote.Ref.{now}
-use Rattle.registers.proofs.Types.{known-bytes, plain-value}
+use Rattle.printer.proofs.Types.{known-bytes}
+use Rattle.registers.proofs.Types.{plain-value}
 use Rattle.reader.proofs.Packed.{read-packed}
 use Rattle.reader.proofs.read.Statement.{statement}
 use Rattle.reader.proofs.read.Tie as tie

@@ -7,7 +7,7 @@ use lib.ListN.{length}
 use Rattle.printer.specs.declared.state.Printer.{Printer}
 use Rattle.registers.specs.declared.pending.Pending.{Pending}
 use Rattle.interpreter.specs.Taking.{Current}
-use Rattle.registers.proofs.Types.{known-bytes}
+use Rattle.printer.proofs.Types.{known-bytes}
 use Rattle.interpreter.proofs.Going.{Going, begins, input-used, allowance-used, output-full, long, part-some, part-within, room-some, within-input, within-output, goes-on, turn-less}
 use Rattle.interpreter.proofs.reading.run.Statement.{statement}
 use Rattle.interpreter.proofs.reading.run.Tie as tie

@@ -25,7 +25,7 @@ returns c =
         s .before .pending-of .ensures,
         w .waiting-in .ensures,
       )
-          (sym (accepted-again (now (b .before .args .m)) (b .whole .ensures))),
+          (sym (accepted-again (now (b .before .args .m)) (b .whole .ensures .1))),
       w .waiting-in .ensures,
     )
 

@@ -19,7 +19,7 @@ loop-holds : tie.Need-loop-holds Inv-loop μ-loop
 loop-holds c =
     let s = c .before .before in
     let e : length (s .args .t3) ≡ 32 = search needs in
-    (omega arith, laid-none (s .args .from) (s .args .t3) (now (s .args .m)) (omega (arith, c .whole .ensures, s .pre)))
+    (omega arith, laid-none (s .args .from) (s .args .t3) (now (s .args .m)) (omega (arith, c .whole .ensures .1, s .pre)))
 
 loop-again : tie.Need-loop-again Inv-loop μ-loop
 loop-again c =
@@ -28,7 +28,7 @@ loop-again c =
     let s = w .before .before in
     let e : length (s .args .t3) ≡ 32 = search needs in (
       omega arith,
-      laid-more (s .args .from) (s .args .t3) (now (s .args .m)) (omega (arith, w .whole .ensures, s .pre)) (omega arith) (l .loop .inv .1),
+      laid-more (s .args .from) (s .args .t3) (now (s .args .m)) (omega (arith, w .whole .ensures .1, s .pre)) (omega arith) (l .loop .inv .1),
     )
 
 returns : tie.Need-returns Inv-loop μ-loop
@@ -38,7 +38,7 @@ returns c =
     let s = w .before .before in
     let e : length (s .args .t3) ≡ 32 = search needs in
     let k : l .loop .i ≡ length (s .args .t3) = omega arith in
-    laid-all (s .args .from) (s .args .t3) (now (s .args .m)) (omega (arith, w .whole .ensures, s .pre)) (l .loop .inv .1) k
+    laid-all (s .args .from) (s .args .t3) (now (s .args .m)) (omega (arith, w .whole .ensures .1, s .pre)) (l .loop .inv .1) k
 
 pub lay-spec : {M : Type 1} → statement M
 lay-spec =

@@ -2,10 +2,10 @@
 use mathlib.Core.Path.{_∙_}
 use borrow.Author.Needs.{needs}
 use denote.Ref.{now}
+use Rattle.printer.proofs.Types.{typed}
 use Rattle.registers.specs.Stores.{staleIn}
 use Rattle.registers.specs.State.{pendingOf}
 use Rattle.registers.proofs.Packing.{packed-words}
-use Rattle.registers.proofs.Types.{typed}
 use Rattle.registers.proofs.State.{pended-words}
 use Rattle.registers.proofs.pack.pack.Statement.{statement}
 use Rattle.registers.proofs.pack.pack.Tie as tie
@@ -21,7 +21,7 @@ returns c =
     let p = b .args .p in
     let m = now (b .args .m) in
     c .store-pending .ensures
-    ∙ rw (w .pending-of .ensures, t .store-stops .ensures, s .store-settings .ensures, x .store-place .ensures, packed-words p m (n .whole .ensures) (typed p (b .good .1 .0) .stops))
+    ∙ rw (w .pending-of .ensures, t .store-stops .ensures, s .store-settings .ensures, x .store-place .ensures, packed-words p m (n .whole .ensures .1) (typed p (b .good .1 .0) .stops))
     (pended-words (pendingOf (p .waiting)) (staleIn m) p)
 
 pub pack-spec : {M : Type 1} → statement M

@@ -22,7 +22,7 @@ abbrev μ-loop : tie.MeasureT-loop
 loop-holds : tie.Need-loop-holds Inv-loop μ-loop
 loop-holds c =
     let m = now (c .before .before .args .m) in
-    (omega arith, (omega arith, laid-none 4 zeros m (omega (arith, c .whole .ensures))))
+    (omega arith, (omega arith, laid-none 4 zeros m (omega (arith, c .whole .ensures .1))))
 
 loop-again : tie.Need-loop-again Inv-loop μ-loop
 loop-again c =
@@ -34,15 +34,15 @@ loop-again c =
     let e : 4 + (i - 4) ≡ i = omega arith in
     let f : getD zeros (i - 4) 0 ≡ 0 = getD-replicate 133 (i - 4) 0 0 (omega arith) in
     let g : (i + 1) - 4 ≡ (i - 4) + 1 = omega arith in
-    (omega arith, (omega arith, rw g (rw (f, e) at (laid-more 4 zeros m (omega (arith, w .whole .ensures)) {i = i - 4} (omega arith) (l .loop .inv .1 .1)))))
+    (omega arith, (omega arith, rw g (rw (f, e) at (laid-more 4 zeros m (omega (arith, w .whole .ensures .1)) {i = i - 4} (omega arith) (l .loop .inv .1 .1)))))
 
 returns : tie.Need-returns Inv-loop μ-loop
 returns c =
     let l = c .before in
     let w = l .before in
     let m = now (w .before .before .args .m) in
-    let d : drop 137 m ≡ [] = drop-of-length-le m {i = 137} (omega (arith, w .whole .ensures)) in
-    laid-all 4 zeros m (omega (arith, w .whole .ensures)) {i = l .loop .i - 4} (l .loop .inv .1 .1) (omega arith) ∙ rw d
+    let d : drop 137 m ≡ [] = drop-of-length-le m {i = 137} (omega (arith, w .whole .ensures .1)) in
+    laid-all 4 zeros m (omega (arith, w .whole .ensures .1)) {i = l .loop .i - 4} (l .loop .inv .1 .1) (omega arith) ∙ rw d
 
 pub clear-spec : {M : Type 1} → statement M
 clear-spec =

@@ -17,7 +17,7 @@ returns c =
     let a = w .before .before .args in
     c .keep-widths .ensures
     ∙ rw (k .store-columns .ensures, s .store-settings .ensures, u .store-setup .ensures, z .clear .ensures)
-    (power-on-words (a .setup) (now (a .m)) (omega (arith, w .whole .ensures)))
+    (power-on-words (a .setup) (now (a .m)) (omega (arith, w .whole .ensures .1)))
 
 pub power-on-spec : {M : Type 1} → statement M
 power-on-spec =

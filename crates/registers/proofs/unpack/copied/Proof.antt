@@ -24,7 +24,7 @@ loop-again c =
     let l = b .before in
     let w = l .before in
     let a = w .before .args in
-    let h = part-long (a .from) 32 (now (a .m)) (omega (arith, w .whole .ensures, w .before .pre)) in
+    let h = part-long (a .from) 32 (now (a .m)) (omega (arith, w .whole .ensures .1, w .before .pre)) in
     copied-more h (omega arith) (l .loop .inv) (sym (part-at (a .from) 32 (l .loop .i) (now (a .m)) (omega arith)))
 
 returns : tie.Need-returns Inv-loop μ-loop
@@ -32,7 +32,7 @@ returns c =
     let l = c .before in
     let w = l .before in
     let a = w .before .args in
-    let h = part-long (a .from) 32 (now (a .m)) (omega (arith, w .whole .ensures, w .before .pre)) in
+    let h = part-long (a .from) 32 (now (a .m)) (omega (arith, w .whole .ensures .1, w .before .pre)) in
     copied-all h (l .loop .inv) (omega arith)
 
 pub copied-spec : {M : Type 1} → statement M

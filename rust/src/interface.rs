@@ -1,0 +1,27 @@
+//! The functions of the library as the header declares them, for a caller
+//! that does without the cover.
+
+use crate::{Settings, State};
+
+/// The bytes read and written by a reading call.
+#[repr(C)]
+pub struct Counts {
+    pub read: usize,
+    pub written: usize,
+}
+
+extern "C" {
+    /// See [`State::start`].
+    pub fn escp_start(state: *mut State, settings: *const Settings) -> u8;
+
+    /// See [`State::read`].
+    pub fn escp_read(
+        state: *mut State,
+        input: *const u8,
+        input_length: usize,
+        allowance: usize,
+        out: *mut u8,
+        out_length: usize,
+        counts: *mut Counts,
+    ) -> u8;
+}
