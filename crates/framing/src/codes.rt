@@ -64,12 +64,12 @@ pub fn second_of(b: u8) -> Second
         b'4' => Second::Switch(Switch::Italic(true)),
         b'5' => Second::Switch(Switch::Italic(false)),
         b'T' => Second::Switch(Switch::NoScript),
-        _ => one_argument(b),
+        _ => begun_of(b),
     }
 }
 
-// The escapes with one argument that change a setting.
-fn one_argument(b: u8) -> Second
+// The rest of the table: the escapes that have arguments or a list, and ESC @. First those with one argument that change a setting.
+pub fn begun_of(b: u8) -> Second
     ensures { λ r. ⌜ r ≡ lookup (coded secondCode (argumentEscapes ++ otherEscapes)) Second.Unlisted b ⌝ }
 {
     match b {

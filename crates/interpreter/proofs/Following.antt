@@ -1,14 +1,12 @@
 -- Letters, and image bytes, that follow each other on a line: what the rules do with them.
-use Prim.Native.Nat.{ℕ, suc, _+_, _*_, _-_, _≤_, _<_}
+use Prim.Native.Nat.{ℕ, suc, _+_, _*_, _-_, _≤_}
 use mathlib.Core.Path.{_≡_, refl, sym, ap, _∙_}
 use mathlib.Core.Bool.{Bool, true, false}
 use mathlib.Core.List.{List, [], _∷_}
 use native.Mathlib.Nat.{zero-mul, suc-mul, add-zero, sub-zero}
-use native.Mathlib.Numerals.{add-one}
 use native.Mathlib.Omega.{arith}
 use lib.Dec.{leb}
-use lib.ListN.{length, take, getD}
-use lib.Seq.{take-suc}
+use lib.ListN.{length}
 use borrow.Author.Tests.{leb-true, leb-false, le-leb, ne-eqb}
 use Rattle.printer.specs.Tools.{pick, either, within}
 use Rattle.printer.specs.Framing.{isLetter, frame, imageWait}
@@ -23,10 +21,10 @@ use Rattle.printer.specs.declared.commands.Density.{Density}
 use Rattle.printer.specs.declared.commands.Waiting.{Waiting}
 use Rattle.printer.specs.declared.records.Record.{Record}
 use Rattle.printer.specs.declared.state.Printer.{Printer}
-use Rattle.printer.proofs.Choices.{each-append}
 use Rattle.printer.proofs.CodeLaws.{both-true}
 use Rattle.interpreter.specs.Leaving.{movedTo}
-use Rattle.interpreter.specs.Series.{likeAt, placedAll}
+use Rattle.framing.specs.Letters.{printsFrom}
+use Rattle.interpreter.specs.Series.{likeAt, placedAll, AllPrint}
 use Rattle.interpreter.specs.Taking.{Letters, RoomForEach}
 use Rattle.interpreter.proofs.Runs.{state-cons, records-cons, room-cons}
 
@@ -125,7 +123,7 @@ images-read (b ∷ l) p d n room e i f g =
     (more-read q (omega arith) (image-state p d n b z k) (image-records p d n b z k)
     (images-read l q d (n - 1) (room - recordSize) refl (omega arith) (omega (arith, m)) (omega arith)))
 
--- The loop that counts letters
+-- Letters by the first byte above 7Fh that is one
 
 -- a letter by the first byte above 7Fh that is one
 upper-test : (b : ℕ) → leb 0x80 b ≡ either (leb 0xA0 b) (within 0x80 0x9F b)
@@ -139,13 +137,18 @@ either-false : (t : Bool) → either t false ≡ t
 either-false true = refl
 either-false false = refl
 
-pub letter-from : (upper : Bool) (b : ℕ) {from : ℕ} → from ≡ pick upper 0x80 0xA0
-    → either (within 0x20 0x7E b) (leb from b) ≡ true → isLetter upper b ≡ true
+pub letter-from : (upper : Bool) (b : ℕ) {from : ℕ} → from ≡ pick upper 0x80 0xA0 → printsFrom from b ≡ true → isLetter upper b ≡ true
 unfolding isLetter
 letter-from true b e h = rw (← upper-test b) (rw e at h)
 letter-from false b e h = rw (either-false (leb 0xA0 b)) (rw e at h)
 
-pub one-letter-more : (upper : Bool) (input : List ℕ) (n : ℕ) → n < length input → Letters upper (take n input)
-    → isLetter upper (getD input n 0) ≡ true → Letters upper (take (n + 1) input)
-one-letter-more upper input n h k e =
-    rw (add-one, take-suc input n 0) (each-append (λ b. isLetter upper b ≡ true) (take n input) (getD input n 0 ∷ []) k (e, tt))
+pub letters-from : (upper : Bool) (l : List ℕ) {from : ℕ} → from ≡ pick upper 0x80 0xA0 → AllPrint from l → Letters upper l
+letters-from upper [] e h = tt
+letters-from upper (b ∷ l) e h = (letter-from upper b e (h .0), letters-from upper l e (h .1))
+
+-- and one that does not print is no letter
+pub no-letter-from : (upper : Bool) (b : ℕ) {from : ℕ} → from ≡ pick upper 0x80 0xA0 → printsFrom from b ≡ false
+    → isLetter upper b ≡ false
+unfolding isLetter
+no-letter-from true b e h = rw (← upper-test b) (rw e at h)
+no-letter-from false b e h = rw (either-false (leb 0xA0 b)) (rw e at h)

@@ -21,12 +21,11 @@ use Rattle.printer.proofs.Choices.{bytes-take, bytes-rest}
 use Rattle.printer.proofs.Accepting.{fact-accepted}
 use Rattle.printer.proofs.KeepingSteps.{Ours, steps-ours}
 use Rattle.registers.specs.declared.pending.Pending.{Pending}
-use Rattle.registers.specs.Layout.{words}
-use Rattle.registers.proofs.State.{small}
 use Rattle.interpreter.specs.declared.turn.Turned.{Turned}
 use Rattle.interpreter.specs.Output.{Written}
 use Rattle.interpreter.specs.Taking.{Current, RoomForEach, TurnPromise, RunPromise}
 use Rattle.interpreter.proofs.Writes.{none, more, lent, same-length}
+use Rattle.interpreter.proofs.Turns.{ours-current}
 use Rattle.interpreter.proofs.Runs.{after, reads, taken-fits, run-taken}
 
 -- the invariant: of a call's input, allowance, output and state, and of the registers, the output and what is waited for now,
@@ -63,16 +62,6 @@ no-allowance p b l left room e = rw e
 
 after-part : (n m : ℕ) (l k : List Record) (v : Run) → after n l (after m k v) ≡ after (n + m) (l ++ k) v
 after-part n m l k v = rw (add-assoc, append-assoc)
-
--- a state of ours, in registers
-ours-current : {p : Printer} {v : Pending} {w : Waiting} {m : List ℕ} → Ours p → m ≡ words v p → w ≡ p .waiting → Current p v w m
-ours-current o e f =
-    record {
-      held = record { same = e; small = small (o .typed) (o .accepted); long = o .typed .stops };
-      waits = f;
-      typed = o .typed;
-      accepted = o .accepted;
-    }
 
 module _
     {input : List ℕ} {allowance : ℕ} {out₀ : List ℕ} {p₀ : Printer} {v : Pending} {m out : List ℕ} {w : Waiting} {at left written : ℕ}

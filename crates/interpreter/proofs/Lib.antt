@@ -6,7 +6,9 @@ pub mod SeriesLoop
 pub mod Runs
 pub mod Following
 pub mod Stepping
+pub mod Shifts
 pub mod Taken
+pub mod Turns
 pub mod Going
 pub mod Pasting
 pub mod Events

@@ -1,6 +1,6 @@
 -- Registers with some settings stored, and then what follows from the settings.
 use Prim.Native.Nat.{ℕ}
-use mathlib.Core.Path.{_≡_, refl, sym, ap, _∙_}
+use mathlib.Core.Path.{_≡_, refl, sym, ap, subst, _∙_}
 use mathlib.Core.Bool.{Bool, true, false, not, _&&_}
 use mathlib.Core.List.{List, [], _∷_}
 use lib.Dec.{eqb}
@@ -13,35 +13,54 @@ use Rattle.printer.specs.Deciding.{canReduce, reducedNeeds}
 use Rattle.printer.specs.declared.settings.Pitch.{Pitch}
 use Rattle.printer.specs.declared.settings.Settings.{Settings}
 use Rattle.printer.specs.declared.state.Printer.{Printer}
+use Rattle.registers.specs.declared.derived.Shown.{Shown}
 use Rattle.registers.specs.declared.pending.Pending.{Pending}
 use Rattle.registers.specs.Layout.{Derived, flag, pitchNumber, derivedOf, laid, words}
 use Rattle.registers.specs.Groups.{isSet}
-use Rattle.registers.specs.Keeping.{styled, measured}
+use Rattle.registers.specs.Keeping.{shownStored, measured}
 use Rattle.registers.specs.Held.{Small, Held}
-use Rattle.registers.proofs.Laws.{set-flag, measured-words, styled-words}
+use Rattle.registers.proofs.Laws.{set-flag, measured-laid}
+use Rattle.registers.proofs.Styles.{Styled, styled-held, style-known, shown-kept}
 
-module _ {p : Printer} {v : Pending} {m : List ℕ} (h : Held p v m) (s : Settings) (small : Small s) where
+module _ {p : Printer} {v : Pending} {m : List ℕ} (h : Held p v m) (s : Settings) where
   abbrev changed : Printer
   changed = withParts p s (p .place) (p .stops)
 
-  -- the widths stay
-  abbrev stale : Derived
-  stale = record { style = styleOf (p .settings); advance = advanceOf s; column = columnOf s }
+  abbrev laidWith : (style advance column : ℕ) → List ℕ
+  laidWith style advance column = laid v (record { style = style; advance = advance; column = column }) changed
 
-  pub style-kept : (f : List ℕ → List ℕ) → f (words v p) ≡ laid v stale changed → styled (f m) ≡ words v changed
-  style-kept f e = ap (λ (l : List ℕ). styled (f l)) (h .same) ∙ ap styled e ∙ styled-words v _ changed small
+  -- stores that keep the style bits as what the settings show
+  module _ (f : List ℕ → List ℕ) (kept : Styled (f m)) where
+    style-kept : (advance column : ℕ) → f (words v p) ≡ laidWith (getD (f (words v p)) 34 0) advance column
+        → f m ≡ laidWith (styleOf s) advance column
+    style-kept advance column alike =
+        let e = ap f (h .same) ∙ alike in
+        e ∙ ap (λ (style : ℕ). laidWith style advance column) (style-known v _ changed (subst Styled e kept))
 
-  pub widths-kept : (f : List ℕ → List ℕ) → f (words v p) ≡ laid v (derivedOf (p .settings)) changed → measured (f m) ≡ words v changed
-  widths-kept f e = ap (λ (l : List ℕ). measured (f l)) (h .same) ∙ ap measured e ∙ measured-words v _ changed small
+    pub look-kept : f (words v p) ≡ laidWith (getD (f (words v p)) 34 0) (advanceOf s) (columnOf s) → f m ≡ words v changed
+    look-kept = style-kept (advanceOf s) (columnOf s)
 
-  -- one register alone
-  module _ (register : ℕ) {n number : ℕ} {after : List ℕ} (e : number ≡ n) where
-    pub look-stored : after ≡ styled (set m register number) → set (words v p) register n ≡ laid v stale changed → after ≡ words v changed
-    look-stored stored alike = stored ∙ rw e (style-kept (λ (l : List ℕ). set l register n) alike)
+    pub widths-kept : Small s → f (words v p) ≡ laidWith (getD (f (words v p)) 34 0) (advanceOf (p .settings)) (columnOf (p .settings))
+        → measured (f m) ≡ words v changed
+    widths-kept small alike = ap measured (style-kept _ _ alike) ∙ measured-laid v _ changed small
 
-    pub width-stored : after ≡ measured (set m register number) → set (words v p) register n ≡ laid v (derivedOf (p .settings)) changed
+  -- one setting that shows
+  module _ (k : Shown) {n number : ℕ} {after : List ℕ} (e : number ≡ n) (stored : after ≡ shownStored m k number) where
+    pub look-stored : shownStored (words v p) k n ≡ laidWith (getD (shownStored (words v p) k n) 34 0) (advanceOf s) (columnOf s)
         → after ≡ words v changed
-    width-stored stored alike = stored ∙ rw e (widths-kept (λ (l : List ℕ). set l register n) alike)
+    look-stored alike = stored ∙ rw e (look-kept (λ (l : List ℕ). shownStored l k n) (shown-kept (styled-held h) k n) alike)
+
+    pub shown-measured : Small s
+        → shownStored (words v p) k n ≡ laidWith (getD (shownStored (words v p) k n) 34 0) (advanceOf (p .settings)) (columnOf (p .settings))
+        → measured after ≡ words v changed
+    shown-measured small alike =
+        ap measured stored ∙ rw e (widths-kept (λ (l : List ℕ). shownStored l k n) (shown-kept (styled-held h) k n) small alike)
+
+  -- one that does not
+  pub width-stored : Small s → (register : ℕ) {n number : ℕ} {after : List ℕ} → number ≡ n → after ≡ measured (set m register number)
+      → set (words v p) register n ≡ laidWith (styleOf s) (advanceOf (p .settings)) (columnOf (p .settings)) → after ≡ words v changed
+  width-stored small register {n} e stored alike =
+      stored ∙ rw e (ap (λ (l : List ℕ). measured (set l register n)) (h .same) ∙ ap measured alike ∙ measured-laid v _ changed small)
 
 -- SO that is not in force is ended
 pub wide-once-off : {p : Printer} {v : Pending} {m : List ℕ} → Held p v m → getD m 17 0 ≡ 0

@@ -27,7 +27,7 @@ use Rattle.registers.proofs.Reading.{advance-held, upper-held}
 use Rattle.interpreter.specs.declared.steps.Stepping.{Stepping}
 use Rattle.interpreter.specs.Output.{Written}
 use Rattle.interpreter.specs.Series.{placedAll}
-use Rattle.interpreter.specs.Taking.{Current, Fits, Letters, RoomForEach, StepPromise, TurnPromise}
+use Rattle.interpreter.specs.Taking.{Current, Fits, Letters, RoomForEach, StepPromise, afterByte, TurnPromise}
 use Rattle.interpreter.proofs.Places.{across-held, right-held, across-stored}
 use Rattle.interpreter.proofs.Following.{AreRead, placed-like, some-columns, letters-read, images-read}
 
@@ -38,6 +38,14 @@ unfolding RoomForEach stateAfter recordsOver
 byte-taken {input = []} h k s = absurd (omega arith)
 byte-taken {input = b ∷ l} h k s =
     record { within = omega arith; enough = (k, tt); same = s .same; waits = s .waits; wrote = rw append-nil (s .wrote) }
+
+-- so a turn of one byte, whatever is waited for
+pub byte-turned : {w : Waiting} {input out m m′ after : List ℕ} {back : Stepping} {allowance : ℕ}
+    → ((0 < length input) × (roomForByte ≤ length out)) × (length input ≤ allowance)
+    → ((p : Printer) (v : Pending) → Current p v w m → StepPromise p v (getD input 0 0) back m′ out 0 after)
+    → ((p : Printer) (v : Pending) → Current p v w m → TurnPromise p v input out (afterByte back allowance) m′ after)
+    × ((0 < 1) × (allowance - 1 + 1 ≡ allowance))
+byte-turned k f = (λ p v h. byte-taken (k .0 .0) (k .0 .1) (f p v h), (omega arith, omega arith))
 
 -- Bytes that follow each other
 

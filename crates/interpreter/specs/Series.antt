@@ -1,9 +1,13 @@
 -- The records of a series of bytes on a line, each placed a step further across.
 use Prim.Native.Nat.{ℕ, _+_, _*_, _/_, _%_}
+use mathlib.Core.Path.{_≡_}
+use mathlib.Core.Bool.{true}
 use mathlib.Core.List.{List, [], _∷_}
+use Rattle.printer.specs.Tools.{Each}
 use Rattle.printer.specs.Units.{rounded}
 use Rattle.printer.specs.Records.{markLow, markHigh}
 use Rattle.printer.specs.declared.records.Record.{Record}
+use Rattle.framing.specs.Letters.{printsFrom}
 use Rattle.interpreter.specs.declared.series.Blank.{Blank}
 
 -- a record like another, at another column and of another byte
@@ -24,6 +28,10 @@ likeAt v column byte =
 unfoldable pub placedAll : Record → (d across step : ℕ) → List ℕ → List Record
 placedAll v d x step [] = []
 placedAll v d x step (b ∷ l) = likeAt v (rounded d x) b ∷ placedAll v d (x + step) step l
+
+-- all of some bytes print
+abbrev pub AllPrint : (from : ℕ) → List ℕ → Type 0
+AllPrint from l = Each (λ b. printsFrom from b ≡ true) l
 
 -- a record's bytes but for its column and its byte, as three numbers
 abbrev pub blankOf : Record → Blank

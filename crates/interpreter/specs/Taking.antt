@@ -51,12 +51,19 @@ unfoldable pub RoomForEach : Printer → (bytes : List ℕ) → (room : ℕ) →
 RoomForEach p [] room = Unit
 RoomForEach p (b ∷ l) room = (roomForByte ≤ room) × RoomForEach (stepOf p b) l (room - recordSize * length (stepRecords p b))
 
+abbrev pub stepping : Waiting → (written : ℕ) → Stepping
+stepping w written = record { waiting = w; written = written }
+
 -- a byte's step: the registers and the output after it
 pub record StepPromise
     (p : Printer) (v : Pending) (b : ℕ) (back : Stepping) (m xs : List ℕ) (at : ℕ) (ys : List ℕ) : Type 0 where
   pub same : m ≡ words v (stepOf p b)
   pub waits : back .waiting ≡ stepOf p b .waiting
   pub wrote : Written xs at (stepRecords p b) (back .written) ys
+
+-- a turn of one byte, by its step
+abbrev pub afterByte : Stepping → (allowance : ℕ) → Turned
+afterByte s allowance = record { waiting = s .waiting; read = 1; written = s .written; left = allowance - 1 }
 
 -- a turn: some bytes of the input
 pub record TurnPromise (p : Printer) (v : Pending) (input out : List ℕ) (back : Turned) (m after : List ℕ) : Type 0 where

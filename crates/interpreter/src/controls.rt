@@ -12,7 +12,9 @@ use crate::tabs::horizontal_tab;
 use crate::tabs::vertical_tab;
 use printer::commands::Control;
 use registers::COUNT;
+ghost use mathlib.Core.Path.{_≡_};
 ghost use mathlib.Core.List.{[], _∷_};
+ghost use mathlib.Core.Logic.{_⊎_};
 ghost use Prim.Native.Nat.{_+_, _≤_};
 ghost use lib.ListN.{length};
 ghost use Rattle.printer.specs.Records.{recordSize};
@@ -31,6 +33,21 @@ fn shift_in(m: &mut [u32; COUNT], b: u8, out: &mut [u8], at: usize) -> usize
         return at;
     }
     write_passed(out, at, b, 2)
+}
+
+// ESC SO and ESC SI: no other control is an escape's second byte.
+pub(crate) fn shift(m: &mut [u32; COUNT], c: Control, b: u8, out: &mut [u8], at: usize) -> usize
+    requires { ⌜ at + recordSize ≤ length (now out) ⌝ }
+    requires { ⌜ (c ≡ Control.ShiftOut) ⊎ (c ≡ Control.ShiftIn) ⌝ }
+    ensures { λ n. ⌜ Does (λ (p : Printer). controlEvents p c b) (now (m .entry)) (now (m .exit)) (now (out .entry)) at n (now (out .exit)) ⌝ }
+{
+    match c {
+        Control::ShiftIn => shift_in(m, b, out, at),
+        _ => {
+            wide_once(m, true);
+            at
+        }
+    }
 }
 
 // A control byte that is a command; the byte as it came.

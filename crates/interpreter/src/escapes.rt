@@ -2,34 +2,26 @@
 use crate::master::master;
 use crate::output::write_passed;
 use crate::settings::double_width;
+use crate::settings::proportional;
 use crate::settings::script;
-use crate::settings::store_look;
 use crate::settings::store_width;
 use framing::codes::choice_code;
 use framing::codes::parameter_code;
 use printer::commands::Choice;
-use printer::commands::Look;
 use printer::commands::Mode;
 use printer::commands::Parameter;
 use printer::commands::Switch;
-use registers::BOLD;
 use registers::COUNT;
 use registers::COUNTRY;
-use registers::DOUBLE_HEIGHT;
-use registers::DOUBLE_STRIKE;
-use registers::DOWNLOAD;
 use registers::DRAFT;
 use registers::FONT;
-use registers::ITALIC;
-use registers::ITALIC_TABLE;
 use registers::LINE;
-use registers::OUTLINE;
 use registers::PITCH;
-use registers::PROPORTIONAL;
 use registers::SKIP;
 use registers::SPACING;
-use registers::UNDERLINE;
 use registers::UPPER_PRINTS;
+use registers::derived::Shown;
+use registers::derived::store_shown;
 use registers::groups::flag;
 use registers::groups::pitch_number;
 ghost use mathlib.Core.Path.{_≡_};
@@ -39,7 +31,7 @@ ghost use Prim.Native.Nat.{_+_, _≤_};
 ghost use lib.ListN.{length};
 ghost use Rattle.printer.specs.Tools.{pick};
 ghost use Rattle.printer.specs.Records.{recordSize};
-ghost use Rattle.printer.specs.Escapes.{switches, switchedOn, countries, modeRow, parameterRow, choiceRow, lookTakes, lookSettings};
+ghost use Rattle.printer.specs.Escapes.{switches, switchedOn, countries, modeRow, parameterRow, choiceRow, lookSettings};
 ghost use Rattle.printer.specs.Performing.{done};
 ghost use Rattle.printer.specs.Deciding.{ranged};
 ghost use Rattle.printer.specs.declared.commands.Command.{Command};
@@ -62,13 +54,13 @@ pub(crate) fn mode(m: &mut [u32; COUNT], k: Mode)
 }
 
 // Those that only show on a letter's record.
-fn switch(m: &mut [u32; COUNT], w: Switch)
+pub(crate) fn switch(m: &mut [u32; COUNT], w: Switch)
     ensures { λ _. ⌜ Sets (now (m .entry)) (now (m .exit)) (λ (s : Settings). lookSettings s (Look.Switch w)) ⌝ }
 {
     match w {
-        Switch::Bold(on) => store_look(m, BOLD, flag(on)),
-        Switch::DoubleStrike(on) => store_look(m, DOUBLE_STRIKE, flag(on)),
-        Switch::Italic(on) => store_look(m, ITALIC, flag(on)),
+        Switch::Bold(on) => store_shown(m, Shown::Bold, flag(on)),
+        Switch::DoubleStrike(on) => store_shown(m, Shown::DoubleStrike, flag(on)),
+        Switch::Italic(on) => store_shown(m, Shown::Italic, flag(on)),
         Switch::NoScript => script(m, false, false),
     }
 }
@@ -126,7 +118,7 @@ fn set_parameter(m: &mut [u32; COUNT], c: Parameter, n: u8)
         Parameter::Line60ths => m[LINE] = 60 * n as u32,
         Parameter::Line360ths => m[LINE] = 10 * n as u32,
         Parameter::Spacing => store_width(m, SPACING, (n % 128) as u32),
-        Parameter::Proportional => store_width(m, PROPORTIONAL, flag(switched_on(n))),
+        Parameter::Proportional => proportional(m, switched_on(n)),
         Parameter::Quality => m[DRAFT] = flag(switched_off(n)),
         Parameter::DoubleWidth => double_width(m, switched_on(n)),
         Parameter::Master => master(m, n),
@@ -154,13 +146,13 @@ fn set_choice(m: &mut [u32; COUNT], c: Choice, n: u8)
 {
     match c {
         Choice::Script => script(m, switched_off(n), switched_on(n)),
-        Choice::Underline => store_look(m, UNDERLINE, flag(switched_on(n))),
-        Choice::DoubleHeight => store_look(m, DOUBLE_HEIGHT, flag(switched_on(n))),
-        Choice::Outline => store_look(m, OUTLINE, n as u32),
-        Choice::CodeTable => store_look(m, ITALIC_TABLE, flag(n == 0)),
+        Choice::Underline => store_shown(m, Shown::Underline, flag(switched_on(n))),
+        Choice::DoubleHeight => store_shown(m, Shown::DoubleHeight, flag(switched_on(n))),
+        Choice::Outline => store_shown(m, Shown::Outline, n as u32),
+        Choice::CodeTable => store_shown(m, Shown::ItalicTable, flag(n == 0)),
         Choice::Font => m[FONT] = n as u32,
         Choice::Country => m[COUNTRY] = n as u32,
-        Choice::Download => store_look(m, DOWNLOAD, flag(switched_on(n))),
+        Choice::Download => store_shown(m, Shown::Download, flag(switched_on(n))),
     }
 }
 
@@ -184,7 +176,7 @@ pub(crate) fn parameter(
 }
 
 // Those that only show on a letter's record.
-fn choice(m: &mut [u32; COUNT], c: Choice, n: u8, out: &mut [u8], at: usize) -> usize
+pub(crate) fn choice(m: &mut [u32; COUNT], c: Choice, n: u8, out: &mut [u8], at: usize) -> usize
     requires { ⌜ at + recordSize ≤ length (now out) ⌝ }
     ensures { λ r. ⌜ Does (λ (p : Printer). ranged (choiceRow c .takes n) (Command.Look (Look.Choice c n)) (done (Command.Look (Look.Choice c n)) 0) ∷ [])
         (now (m .entry)) (now (m .exit)) (now (out .entry)) at r (now (out .exit)) ⌝ }
@@ -194,19 +186,4 @@ fn choice(m: &mut [u32; COUNT], c: Choice, n: u8, out: &mut [u8], at: usize) -> 
         return at;
     }
     write_passed(out, at, choice_code(c), 2)
-}
-
-// What only shows on a letter's record.
-pub(crate) fn look(m: &mut [u32; COUNT], k: Look, out: &mut [u8], at: usize) -> usize
-    requires { ⌜ at + recordSize ≤ length (now out) ⌝ }
-    ensures { λ r. ⌜ Does (λ (p : Printer). ranged (lookTakes k) (Command.Look k) (done (Command.Look k) 0) ∷ [])
-        (now (m .entry)) (now (m .exit)) (now (out .entry)) at r (now (out .exit)) ⌝ }
-{
-    match k {
-        Look::Switch(w) => {
-            switch(m, w);
-            at
-        }
-        Look::Choice(c, n) => choice(m, c, n, out, at),
-    }
 }

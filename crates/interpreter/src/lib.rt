@@ -1,5 +1,4 @@
 // The calls on registers.
-mod commands;
 mod controls;
 mod escapes;
 mod letters;

@@ -4,7 +4,6 @@ use crate::positions::column_position;
 use measures::paper;
 use measures::stops;
 use measures::widths;
-use printer::commands::ListPart;
 use printer::commands::Tabs;
 use printer::settings::Margins;
 use printer::settings::Settings;
@@ -32,6 +31,7 @@ ghost use Rattle.printer.specs.Performing.{withParts, gathering, stopOf, listEn
 ghost use Rattle.printer.specs.Deciding.{mostStops, stopPlace, attempt};
 ghost use Rattle.printer.specs.Widths.{columnWidth};
 ghost use Rattle.printer.specs.declared.commands.Command.{Command};
+ghost use Rattle.printer.specs.declared.commands.ListPart.{ListPart};
 ghost use Rattle.printer.specs.declared.state.Printer.{Printer};
 ghost use Rattle.registers.specs.Layout.{registerCount};
 ghost use Rattle.interpreter.specs.Doing.{Leaves, Does};
@@ -41,7 +41,7 @@ ghost use Rattle.interpreter.specs.Searching.{columnAt};
 const LIST: usize = TabStops::ROOM + 1;
 
 // An empty list is begun.
-fn open_list(m: &mut [u32; COUNT])
+pub(crate) fn open_list(m: &mut [u32; COUNT])
     ensures { λ _. ⌜ Leaves (now (m .entry)) (now (m .exit)) (λ (p : Printer). withParts p (p .settings) (p .place) (gathering (p .stops) noStops)) ⌝ }
 {
     let mut i: usize = 0;
@@ -64,7 +64,7 @@ fn copy_gathered(m: &mut [u32; COUNT], to: usize)
 }
 
 // The end of a list: it replaces the stops in force, and is emptied.
-fn end_list(m: &mut [u32; COUNT], k: Tabs)
+pub(crate) fn end_list(m: &mut [u32; COUNT], k: Tabs)
     ensures { λ _. ⌜ Leaves (now (m .entry)) (now (m .exit)) (λ (p : Printer). withParts p (p .settings) (p .place) (listEnded (p .stops) k)) ⌝ }
 {
     match k {
@@ -124,7 +124,7 @@ fn add_stop(m: &mut [u32; COUNT], count: u32, stop: u32)
 }
 
 // A byte of a list: one more stop, or passed over.
-fn list_byte(m: &mut [u32; COUNT], k: Tabs, b: u8, out: &mut [u8], at: usize) -> usize
+pub(crate) fn list_byte(m: &mut [u32; COUNT], k: Tabs, b: u8, out: &mut [u8], at: usize) -> usize
     requires { ⌜ at + recordSize ≤ length (now out) ⌝ }
     ensures { λ n. ⌜ Does (λ (p : Printer). attempt p (Command.List k (ListPart.Byte b)) 3 ∷ []) (now (m .entry)) (now (m .exit)) (now (out .entry)) at n (now (out .exit)) ⌝ }
 {
@@ -136,28 +136,4 @@ fn list_byte(m: &mut [u32; COUNT], k: Tabs, b: u8, out: &mut [u8], at: usize) ->
         return at;
     }
     write_passed(out, at, b, 3)
-}
-
-// A list's escape, or a byte of the list.
-pub(crate) fn list(
-    m: &mut [u32; COUNT],
-    k: Tabs,
-    part: ListPart,
-    out: &mut [u8],
-    at: usize,
-) -> usize
-    requires { ⌜ at + recordSize ≤ length (now out) ⌝ }
-    ensures { λ n. ⌜ Does (λ (p : Printer). attempt p (Command.List k part) 3 ∷ []) (now (m .entry)) (now (m .exit)) (now (out .entry)) at n (now (out .exit)) ⌝ }
-{
-    match part {
-        ListPart::Open => {
-            open_list(m);
-            at
-        }
-        ListPart::Byte(b) => list_byte(m, k, b, out, at),
-        ListPart::End(_) => {
-            end_list(m, k);
-            at
-        }
-    }
 }

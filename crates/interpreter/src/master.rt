@@ -1,25 +1,21 @@
 // ESC !: width and emphasis at once, by the bits of its argument.
 use crate::settings::double;
 use printer::settings::Pitch;
-use registers::BOLD;
 use registers::COUNT;
-use registers::DOUBLE_STRIKE;
-use registers::ITALIC;
 use registers::PITCH;
-use registers::PROPORTIONAL;
-use registers::REDUCED;
-use registers::UNDERLINE;
+use registers::derived::Shown;
 use registers::derived::keep_widths;
+use registers::derived::store_shown;
 use registers::groups::flag;
 use registers::groups::pitch_number;
 ghost use mathlib.Core.Path.{_≡_};
-ghost use Prim.Native.Nat.{_≤_, _<_};
-ghost use lib.ListN.{set};
+ghost use Prim.Native.Nat.{_≤_};
 ghost use Rattle.printer.specs.Tools.{pick, bit};
 ghost use Rattle.printer.specs.Escapes.{masterSettings};
 ghost use Rattle.printer.specs.declared.settings.Pitch.{Pitch};
 ghost use Rattle.printer.specs.declared.settings.Settings.{Settings};
-ghost use Rattle.registers.specs.Layout.{registerCount, flag};
+ghost use Rattle.registers.specs.Layout.{flag};
+ghost use Rattle.registers.specs.Keeping.{shownStored};
 ghost use Rattle.interpreter.specs.Doing.{Sets};
 ghost use Rattle.interpreter.specs.Storing.{masterWidthIn, masterEmphasisIn};
 
@@ -31,11 +27,11 @@ fn bit(n: u8, k: u8) -> bool
     n / k % 2 == 1
 }
 
-fn store_bit(m: &mut [u32; COUNT], register: usize, n: u8, k: u8)
-    requires { ⌜ (register < registerCount) × (1 ≤ k) ⌝ }
-    ensures { λ _. ⌜ now (m .exit) ≡ set (now (m .entry)) register (flag (bit n k)) ⌝ }
+fn store_bit(m: &mut [u32; COUNT], s: Shown, n: u8, k: u8)
+    requires { ⌜ 1 ≤ k ⌝ }
+    ensures { λ _. ⌜ now (m .exit) ≡ shownStored (now (m .entry)) s (flag (bit n k)) ⌝ }
 {
-    m[register] = flag(bit(n, k));
+    store_shown(m, s, flag(bit(n, k)));
 }
 
 fn master_pitch(twelve: bool) -> Pitch
@@ -49,8 +45,8 @@ fn master_width(m: &mut [u32; COUNT], n: u8)
     ensures { λ _. ⌜ now (m .exit) ≡ masterWidthIn (now (m .entry)) n ⌝ }
 {
     m[PITCH] = pitch_number(master_pitch(bit(n, 0x01)));
-    store_bit(m, PROPORTIONAL, n, 0x02);
-    store_bit(m, REDUCED, n, 0x04);
+    store_bit(m, Shown::Proportional, n, 0x02);
+    store_bit(m, Shown::Reduced, n, 0x04);
     double(m, bit(n, 0x20));
 }
 
@@ -58,10 +54,10 @@ fn master_width(m: &mut [u32; COUNT], n: u8)
 fn master_emphasis(m: &mut [u32; COUNT], n: u8)
     ensures { λ _. ⌜ now (m .exit) ≡ masterEmphasisIn (now (m .entry)) n ⌝ }
 {
-    store_bit(m, BOLD, n, 0x08);
-    store_bit(m, DOUBLE_STRIKE, n, 0x10);
-    store_bit(m, ITALIC, n, 0x40);
-    store_bit(m, UNDERLINE, n, 0x80);
+    store_bit(m, Shown::Bold, n, 0x08);
+    store_bit(m, Shown::DoubleStrike, n, 0x10);
+    store_bit(m, Shown::Italic, n, 0x40);
+    store_bit(m, Shown::Underline, n, 0x80);
 }
 
 // ESC !

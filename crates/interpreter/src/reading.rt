@@ -1,18 +1,15 @@
 // The loop of a reading call.
 use crate::series::least;
+use crate::turn::ROOM;
 use crate::turn::turn;
 use printer::answers::Answer;
 use printer::answers::Report;
 use printer::commands::Waiting;
-use printer::records::Record;
 use registers::COUNT;
 ghost use mathlib.Core.Path.{_≡_};
 ghost use Rattle.printer.specs.declared.state.Printer.{Printer};
 ghost use Rattle.registers.specs.declared.pending.Pending.{Pending};
 ghost use Rattle.interpreter.specs.Taking.{Current, Kept, RunPromise};
-
-// The room that a byte's records may take: it writes at most two.
-const ROOM: usize = 2 * Record::SIZE;
 
 // What the loop gives back; the rest of the state is in the registers.
 pub(crate) struct Ran {

@@ -1,6 +1,9 @@
 // A series of bytes on a line, each placed a step further across: letters, and image bytes.
+use framing::prints;
+use measures::rounding;
 use printer::records::Mark;
 use printer::records::Record;
+use printer::units::Dots;
 use printer::units::Units;
 use registers::ACROSS;
 use registers::COUNT;
@@ -10,13 +13,11 @@ ghost use mathlib.Core.Path.{_≡_};
 ghost use mathlib.Core.List.{[], _∷_};
 ghost use Prim.Native.Nat.{_+_, _*_, _≤_, _<_, min};
 ghost use lib.ListN.{length, take, getD, set};
-ghost use lib.Dec.{leb};
-ghost use Rattle.printer.specs.Tools.{pick, either, within};
 ghost use Rattle.printer.specs.Records.{markLow, markHigh, recordSize, roomForByte, encoded};
 ghost use Rattle.printer.specs.declared.records.Record.{Record};
 ghost use Rattle.interpreter.specs.Output.{Written};
-ghost use Rattle.interpreter.specs.Series.{blankOf, digits, placedAll};
-ghost use Rattle.interpreter.specs.Taking.{Fits, Letters};
+ghost use Rattle.interpreter.specs.Series.{blankOf, digits, placedAll, AllPrint};
+ghost use Rattle.interpreter.specs.Taking.{Fits};
 
 // A record's bytes but for its column and its byte, as three numbers.
 pub(crate) struct Blank {
@@ -51,11 +52,11 @@ fn blank_of(v: Record) -> Blank
 }
 
 // The record's bytes, with a column and a byte, as digits: they are stored as three numbers.
-fn bytes_at(blank: Blank, column: u32, b: u8) -> [u8; 14]
-    requires { ⌜ blank .head + 65536 * column + 281474976710656 * b < 18446744073709551616 ⌝ }
-    ensures { λ r. ⌜ r ≡ digits (blank .head + 65536 * column + 281474976710656 * b) (blank .tail) (blank .advance) ⌝ }
+fn bytes_at(blank: Blank, column: Dots, b: u8) -> [u8; Record::SIZE]
+    requires { ⌜ blank .head + 65536 * column .0 + 281474976710656 * b < 18446744073709551616 ⌝ }
+    ensures { λ r. ⌜ r ≡ digits (blank .head + 65536 * column .0 + 281474976710656 * b) (blank .tail) (blank .advance) ⌝ }
 {
-    let h = blank.head + 65536 * column as u64 + 281474976710656 * b as u64;
+    let h = blank.head + 65536 * column.0 as u64 + 281474976710656 * b as u64;
     let t = blank.tail;
     let a = blank.advance;
     [
@@ -77,7 +78,7 @@ fn bytes_at(blank: Blank, column: u32, b: u8) -> [u8; 14]
 }
 
 // Writes a record's bytes from `at`.
-fn write_bytes(out: &mut [u8], at: usize, all: [u8; 14])
+fn write_bytes(out: &mut [u8], at: usize, all: [u8; Record::SIZE])
     requires { ⌜ at + recordSize ≤ length (now out) ⌝ }
     ensures { λ _. ⌜ ((v : Record) → all ≡ encoded v → Written (now (out .entry)) at (v ∷ []) (at + recordSize) (now (out .exit))) ⌝ }
 {
@@ -85,40 +86,52 @@ fn write_bytes(out: &mut [u8], at: usize, all: [u8; 14])
     bytes::copy(&all, &mut out[at..end]);
 }
 
-// Places all of the input: records like one, from a position on, each a step further and rounded from its exact place.
-// The allowance falls by one for each byte; gives what is left of it.
-pub(crate) fn place_all(
+// How many bytes were placed, and what is left of the allowance.
+pub(crate) struct Placed {
+    pub count: usize,
+    pub left: usize,
+}
+
+// Places the input up to a byte that does not print: records like one, from a position on, each a step further and rounded from
+// its exact place. The allowance falls by one for each byte.
+fn place_all(
     v: Record,
+    from: u8,
     d: u32,
     across: Units,
     step: Units,
     input: &[u8],
     out: &mut [u8],
     allowance: usize,
-) -> usize
+) -> Placed
     requires { ⌜ (d ≤ 300) × (step .0 ≤ 28800) ⌝ }
     requires { ⌜ across .0 + length (now input) * step .0 ≤ 28800 ⌝ }
     requires { ⌜ (recordSize * length (now input) ≤ length (now out)) × (length (now input) ≤ allowance) ⌝ }
-    ensures { λ _. ⌜ Written (now (out .entry)) 0 (placedAll v d (across .0) (step .0) (now (input .entry)))
-        (recordSize * length (now (input .entry))) (now (out .exit)) ⌝ }
-    ensures { λ left. ⌜ left + length (now (input .entry)) ≡ allowance ⌝ }
+    ensures { λ r. ⌜ (r .count ≤ length (now (input .entry))) × AllPrint from (take (r .count) (now (input .entry))) ⌝ }
+    ensures { λ r. ⌜ Written (now (out .entry)) 0 (placedAll v d (across .0) (step .0) (take (r .count) (now (input .entry))))
+        (recordSize * r .count) (now (out .exit)) ⌝ }
+    ensures { λ r. ⌜ r .left + r .count ≡ allowance ⌝ }
 {
     let blank = blank_of(v);
-    let from = across.0;
-    let each = step.0;
-    let by = each * d;
-    let mut exact = from * d + 1800;
+    let by = rounding::parts(step, d);
+    let mut exact = rounding::exact_place(across, d);
     let mut n: usize = 0;
     let mut at: usize = 0;
     let mut left = allowance;
     while n < input.len() {
-        write_bytes(&mut *out, at, bytes_at(blank, exact / 3600, input[n]));
-        exact += by;
+        let b = input[n];
+        let printed = prints(from, b);
+        if !printed {
+            break;
+        }
+        let column = rounding::whole_dots(exact);
+        write_bytes(&mut *out, at, bytes_at(blank, column, b));
+        exact = rounding::further(exact, by);
         n += 1;
         left -= 1;
         at += Record::SIZE;
     }
-    left
+    Placed { count: n, left }
 }
 
 // The lesser of two numbers.
@@ -147,61 +160,48 @@ pub(crate) fn most_here(m: &[u32; COUNT], step: Units, input: usize, room: usize
     least(fitting, least(records, input))
 }
 
-// The first byte above 7Fh that is a letter, by whether 80h to 9Fh print.
-fn upper_letters(upper: bool) -> u8
-    ensures { λ r. ⌜ r ≡ pick upper 0x80 0xA0 ⌝ }
-{
-    if upper { 0x80 } else { 0xA0 }
-}
-
-// Whether a byte prints.
-fn prints(from: u8, b: u8) -> bool
-    ensures { λ r. ⌜ r ≡ either (within 0x20 0x7E b) (leb from b) ⌝ }
-{
-    ((0x20 <= b) & (b <= 0x7E)) | (from <= b)
-}
-
-// How many of the first bytes, up to a number of them, are letters before one that is not.
-pub(crate) fn letters_in(upper: bool, input: &[u8], most: usize) -> usize
-    requires { ⌜ most ≤ length (now input) ⌝ }
-    ensures { λ n. ⌜ (n ≤ most) × Letters upper (take n (now (input .entry))) ⌝ }
-{
-    let from = upper_letters(upper);
-    let mut n: usize = 0;
-    while n < most {
-        let b = input[n];
-        let letter = prints(from, b);
-        if !letter {
-            break;
-        }
-        n += 1;
-    }
-    n
-}
-
-// Places the first bytes like a record, so many, and moves the position across; gives what is left of the allowance.
-pub(crate) fn place_first(
+// Places the first bytes like a record, up to one that does not print: as many of some as fit; moves the position across.
+pub(crate) fn place_run(
     m: &mut [u32; COUNT],
     v: Record,
+    from: u8,
     step: Units,
-    n: usize,
+    some: usize,
     input: &[u8],
     out: &mut [u8],
     allowance: usize,
-) -> usize
-    requires { ⌜ (0 < n) × ((n ≤ allowance) × (0 < step .0)) ⌝ }
-    requires { ⌜ Fits n (length (now input)) (length (now out)) (getD (now m) 4 0) (step .0) (getD (now m) 7 0) ⌝ }
-    requires { ⌜ (getD (now m) 7 0 ≤ 28800) × (getD (now m) 11 0 ≤ 300) ⌝ }
-    ensures { λ _. ⌜ now (m .exit) ≡ set (now (m .entry)) 4 (getD (now (m .entry)) 4 0 + n * step .0) ⌝ }
-    ensures { λ _. ⌜ Written (now (out .entry)) 0
-        (placedAll v (getD (now (m .entry)) 11 0) (getD (now (m .entry)) 4 0) (step .0) (take n (now (input .entry))))
-        (recordSize * n) (now (out .exit)) ⌝ }
-    ensures { λ left. ⌜ left + n ≡ allowance ⌝ }
+) -> Placed
+    requires { ⌜ (0 < step .0) × ((some ≤ length (now input)) × (some ≤ allowance)) ⌝ }
+    requires { ⌜ roomForByte ≤ length (now out) ⌝ }
+    requires { ⌜ (getD (now m) 4 0 ≤ getD (now m) 7 0) × ((getD (now m) 7 0 ≤ 28800) × (getD (now m) 11 0 ≤ 300)) ⌝ }
+    ensures { λ r. ⌜ Fits (r .count) some (length (now (out .entry))) (getD (now (m .entry)) 4 0) (step .0) (getD (now (m .entry)) 7 0)
+        × AllPrint from (take (r .count) (now (input .entry))) ⌝ }
+    ensures { λ r. ⌜ now (m .exit) ≡ set (now (m .entry)) 4 (getD (now (m .entry)) 4 0 + r .count * step .0) ⌝ }
+    ensures { λ r. ⌜ Written (now (out .entry)) 0
+        (placedAll v (getD (now (m .entry)) 11 0) (getD (now (m .entry)) 4 0) (step .0) (take (r .count) (now (input .entry))))
+        (recordSize * r .count) (now (out .exit)) ⌝ }
+    ensures { λ r. ⌜ r .left + r .count ≡ allowance ⌝ }
 {
     let across = m[ACROSS];
     let d = m[DOTS_ACROSS];
-    let left = place_all(v, d, Units(across), step, &input[0..n], out, allowance);
-    let by = n as u32 * step.0;
+    let most = most_here(&*m, step, some, out.len());
+    if most == 0 {
+        return Placed {
+            count: 0,
+            left: allowance,
+        };
+    }
+    let placed = place_all(
+        v,
+        from,
+        d,
+        Units(across),
+        step,
+        &input[0..most],
+        out,
+        allowance,
+    );
+    let by = placed.count as u32 * step.0;
     m[ACROSS] = across + by;
-    left
+    placed
 }

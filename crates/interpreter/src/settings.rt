@@ -1,41 +1,31 @@
 // Settings stored where they stand, and what follows from them.
 use registers::COUNT;
 use registers::PITCH;
-use registers::REDUCED;
-use registers::SUBSCRIPT;
-use registers::SUPERSCRIPT;
 use registers::WIDE;
 use registers::WIDE_ONCE;
-use registers::derived::keep_style;
+use registers::derived::Shown;
 use registers::derived::keep_widths;
+use registers::derived::store_double;
+use registers::derived::store_shown;
 use registers::groups::flag;
 ghost use mathlib.Core.Path.{_≡_};
 ghost use mathlib.Core.Bool.{false};
 ghost use Prim.Native.Nat.{_<_};
 ghost use lib.ListN.{set};
 ghost use Rattle.printer.specs.Tools.{holds};
-ghost use Rattle.printer.specs.Settings.{withWidth, withReduced, withWideOnce, withScript};
+ghost use Rattle.printer.specs.Settings.{withWidth, withReduced, withProportional, withWideOnce, withScript};
 ghost use Rattle.printer.specs.Escapes.{doubled};
 ghost use Rattle.printer.specs.Deciding.{reducedNeeds};
 ghost use Rattle.printer.specs.declared.settings.Settings.{Settings};
 ghost use Rattle.printer.specs.declared.state.Printer.{Printer};
 ghost use Rattle.registers.specs.declared.pending.Pending.{Pending};
 ghost use Rattle.registers.specs.Layout.{registerCount};
-ghost use Rattle.registers.specs.Keeping.{styled, measured};
+ghost use Rattle.registers.specs.Keeping.{measured};
 ghost use Rattle.registers.specs.Held.{Held};
 ghost use Rattle.interpreter.specs.Doing.{Sets};
 ghost use Rattle.interpreter.specs.Storing.{doubledIn};
 
-// A setting that shows on a letter's record.
-pub(crate) fn store_look(m: &mut [u32; COUNT], register: usize, n: u32)
-    requires { ⌜ register < registerCount ⌝ }
-    ensures { λ _. ⌜ now (m .exit) ≡ styled (set (now (m .entry)) register n) ⌝ }
-{
-    m[register] = n;
-    keep_style(m);
-}
-
-// A setting that the widths depend on.
+// A setting that the widths depend on, and that does not show.
 pub(crate) fn store_width(m: &mut [u32; COUNT], register: usize, n: u32)
     requires { ⌜ register < registerCount ⌝ }
     ensures { λ _. ⌜ now (m .exit) ≡ measured (set (now (m .entry)) register n) ⌝ }
@@ -48,7 +38,9 @@ pub(crate) fn store_width(m: &mut [u32; COUNT], register: usize, n: u32)
 pub(crate) fn wide_once(m: &mut [u32; COUNT], on: bool)
     ensures { λ _. ⌜ Sets (now (m .entry)) (now (m .exit)) (λ (s : Settings). withWideOnce s on) ⌝ }
 {
-    store_width(m, WIDE_ONCE, flag(on));
+    let wide = m[WIDE];
+    store_double(m, wide, flag(on));
+    keep_widths(m);
 }
 
 // SO ends, at each line: mostly it is not in force.
@@ -65,7 +57,8 @@ pub(crate) fn end_wide_once(m: &mut [u32; COUNT])
 pub(crate) fn reduced(m: &mut [u32; COUNT], on: bool)
     ensures { λ _. ⌜ Sets (now (m .entry)) (now (m .exit)) (λ (s : Settings). withWidth s (withReduced (s .width) on)) ⌝ }
 {
-    store_width(m, REDUCED, flag(on));
+    store_shown(m, Shown::Reduced, flag(on));
+    keep_widths(m);
 }
 
 // Whether SI is allowed: not at 15 cpi.
@@ -75,13 +68,20 @@ pub(crate) fn reduced_allowed(m: &[u32; COUNT]) -> bool
     m[PITCH] != 15
 }
 
+// ESC p.
+pub(crate) fn proportional(m: &mut [u32; COUNT], on: bool)
+    ensures { λ _. ⌜ Sets (now (m .entry)) (now (m .exit)) (λ (s : Settings). withWidth s (withProportional (s .width) on)) ⌝ }
+{
+    store_shown(m, Shown::Proportional, flag(on));
+    keep_widths(m);
+}
+
 // Double width, whose end ends SO too.
 pub(crate) fn double(m: &mut [u32; COUNT], on: bool)
     ensures { λ _. ⌜ now (m .exit) ≡ doubledIn (now (m .entry)) on ⌝ }
 {
     let once = on & (m[WIDE_ONCE] == 1);
-    m[WIDE] = flag(on);
-    m[WIDE_ONCE] = flag(once);
+    store_double(m, flag(on), flag(once));
 }
 
 // ESC W.
@@ -96,6 +96,6 @@ pub(crate) fn double_width(m: &mut [u32; COUNT], on: bool)
 pub(crate) fn script(m: &mut [u32; COUNT], up: bool, down: bool)
     ensures { λ _. ⌜ Sets (now (m .entry)) (now (m .exit)) (λ (s : Settings). withScript s up down) ⌝ }
 {
-    m[SUPERSCRIPT] = flag(up);
-    store_look(m, SUBSCRIPT, flag(down));
+    store_shown(m, Shown::Superscript, flag(up));
+    store_shown(m, Shown::Subscript, flag(down));
 }

@@ -1,23 +1,45 @@
-// One byte of any kind.
-use crate::commands;
+// One byte that is neither a letter nor of an image: a control byte, or a byte of an escape or a list.
 use crate::controls::control;
-use crate::letters::letter;
+use crate::controls::shift;
+use crate::escapes::choice;
+use crate::escapes::mode;
+use crate::escapes::parameter;
+use crate::escapes::switch;
+use crate::lines::feed;
+use crate::lists::end_list;
+use crate::lists::list_byte;
+use crate::lists::open_list;
+use crate::margins::margin;
+use crate::moves::move_by;
 use crate::output::write_passed;
+use crate::pages::page;
+use crate::pages::reset;
+use crate::pages::skip;
+use framing::image_wait;
+use printer::commands::Begun;
 use printer::commands::First;
-use printer::commands::Frame;
+use printer::commands::One;
+use printer::commands::Page;
+use printer::commands::Second;
+use printer::commands::Tabs;
+use printer::commands::Two;
 use printer::commands::Waiting;
 use registers::COUNT;
-use registers::UPPER_PRINTS;
 ghost use mathlib.Core.Path.{_≡_};
 ghost use Prim.Native.Nat.{_+_, _≤_};
 ghost use lib.ListN.{length};
-ghost use Rattle.printer.specs.Records.{roomForByte};
-ghost use Rattle.printer.specs.Framing.{firstFrame};
+ghost use Rattle.printer.specs.Accepted.{Accepted};
+ghost use Rattle.printer.specs.Deciding.{decide};
+ghost use Rattle.printer.specs.Records.{recordSize, roomForByte};
+ghost use Rattle.printer.specs.Framing.{firstFrame, secondOf, oneCommand};
 ghost use Rattle.printer.specs.Steps.{frameAt};
+ghost use Rattle.printer.specs.declared.commands.Begun.{Begun};
 ghost use Rattle.printer.specs.declared.commands.Waiting.{Waiting};
 ghost use Rattle.printer.specs.declared.state.Printer.{Printer};
 ghost use Rattle.registers.specs.declared.pending.Pending.{Pending};
-ghost use Rattle.interpreter.specs.Taking.{Current, StepPromise};
+ghost use Rattle.registers.specs.Held.{Held};
+ghost use Rattle.interpreter.specs.Doing.{Did};
+ghost use Rattle.interpreter.specs.Taking.{Current, stepping, StepPromise};
 
 // What is waited for after a byte, and the place after its records.
 pub(crate) struct Stepping {
@@ -26,7 +48,13 @@ pub(crate) struct Stepping {
 }
 
 // One that is no letter, by what it is.
-fn control_step(m: &mut [u32; COUNT], f: First, b: u8, out: &mut [u8], at: usize) -> Stepping
+pub(crate) fn control_step(
+    m: &mut [u32; COUNT],
+    f: First,
+    b: u8,
+    out: &mut [u8],
+    at: usize,
+) -> Stepping
     requires { ⌜ at + roomForByte ≤ length (now out) ⌝ }
     ensures { λ r. ⌜ ((p : Printer) (v : Pending) → Current p v Waiting.Nothing (now (m .entry)) → frameAt p b ≡ firstFrame f b
         → StepPromise p v b r (now (m .exit)) (now (out .entry)) at (now (out .exit))) ⌝ }
@@ -47,47 +75,135 @@ fn control_step(m: &mut [u32; COUNT], f: First, b: u8, out: &mut [u8], at: usize
     }
 }
 
-// A byte between commands: a letter that is not placed in a run, a control byte, an escape's first byte, or one that is not listed.
-pub(crate) fn first_step(m: &mut [u32; COUNT], b: u8, out: &mut [u8], at: usize) -> Stepping
-    requires { ⌜ at + roomForByte ≤ length (now out) ⌝ }
-    ensures { λ r. ⌜ ((p : Printer) (v : Pending) → Current p v Waiting.Nothing (now (m .entry))
-        → StepPromise p v b r (now (m .exit)) (now (out .entry)) at (now (out .exit))) ⌝ }
+// A command is whole.
+fn whole(written: usize) -> Stepping
+    ensures { λ r. ⌜ r ≡ stepping Waiting.Nothing written ⌝ }
 {
-    let upper = m[UPPER_PRINTS] == 1;
-    let prints = framing::is_letter(upper, b);
-    if prints {
-        let written = letter(m, b, out, at);
-        return Stepping {
-            waiting: Waiting::Nothing,
-            written,
-        };
+    Stepping {
+        waiting: Waiting::Nothing,
+        written,
     }
-    control_step(m, framing::first(upper, b), b, out, at)
 }
 
-// A byte of any kind: its command, if it makes one whole, and what is waited for next.
-pub(crate) fn step(
-    waiting: Waiting,
+// More bytes are waited for.
+fn waits(next: Waiting, written: usize) -> Stepping
+    ensures { λ r. ⌜ r ≡ stepping next written ⌝ }
+{
+    Stepping {
+        waiting: next,
+        written,
+    }
+}
+
+// An escape's second byte, by what it is.
+pub(crate) fn second_step(
     m: &mut [u32; COUNT],
+    s: Second,
     b: u8,
     out: &mut [u8],
     at: usize,
 ) -> Stepping
     requires { ⌜ at + roomForByte ≤ length (now out) ⌝ }
-    ensures { λ r. ⌜ ((p : Printer) (v : Pending) → Current p v waiting (now (m .entry))
+    requires { ⌜ s ≡ secondOf b ⌝ }
+    ensures { λ r. ⌜ ((p : Printer) (v : Pending) → Current p v Waiting.SecondByte (now (m .entry))
         → StepPromise p v b r (now (m .exit)) (now (out .entry)) at (now (out .exit))) ⌝ }
 {
-    match framing::frame(m[UPPER_PRINTS] == 1, waiting, b) {
-        Frame::Waits(next) => Stepping {
-            waiting: next,
-            written: at,
-        },
-        Frame::Whole(c, next) => {
-            let written = commands::command(m, c, out, at);
-            Stepping {
-                waiting: next,
-                written,
-            }
+    match s {
+        Second::Control(c) => whole(shift(m, c, b, out, at)),
+        Second::Reset => whole(reset(m, out, at)),
+        Second::Mode(k) => {
+            mode(m, k);
+            whole(at)
         }
+        Second::Switch(w) => {
+            switch(m, w);
+            whole(at)
+        }
+        Second::Begins(w) => waits(Waiting::Arguments(w), at),
+        Second::List(t) => {
+            open_list(m);
+            waits(Waiting::StopList(t, 0), at)
+        }
+        Second::Unlisted => whole(write_passed(out, at, b, 1)),
     }
+}
+
+// The one argument of an escape.
+fn one_argument(m: &mut [u32; COUNT], c: One, n: u8, out: &mut [u8], at: usize) -> usize
+    requires { ⌜ at + recordSize ≤ length (now out) ⌝ }
+    ensures { λ r. ⌜ ((p : Printer) (v : Pending) → Held p v (now (m .entry)) → Accepted p
+        → Did p v (decide p (oneCommand c n)) (now (m .exit)) (now (out .entry)) at r (now (out .exit))) ⌝ }
+{
+    match c {
+        One::Parameter(k) => parameter(m, k, n, out, at),
+        One::Choice(k) => choice(m, k, n, out, at),
+        One::Skip => skip(m, n, out, at),
+        One::Feed => feed(m, n, out, at),
+        One::Margin(side) => margin(m, side, n, out, at),
+    }
+}
+
+// The argument of ESC C: 0 says that inches follow.
+fn page_step(m: &mut [u32; COUNT], n: u8, out: &mut [u8], at: usize) -> Stepping
+    requires { ⌜ at + recordSize ≤ length (now out) ⌝ }
+    ensures { λ r. ⌜ ((p : Printer) (v : Pending) → Current p v (Waiting.Arguments Begun.PageLength) (now (m .entry))
+        → StepPromise p v n r (now (m .exit)) (now (out .entry)) at (now (out .exit))) ⌝ }
+{
+    if n == 0 {
+        return waits(Waiting::Arguments(Begun::PageInches), at);
+    }
+    whole(page(m, Page::Lines(n), out, at))
+}
+
+// The second of two arguments: an image's say how many bytes of data follow.
+fn two_step(m: &mut [u32; COUNT], c: Two, a: u8, b: u8, out: &mut [u8], at: usize) -> Stepping
+    requires { ⌜ at + recordSize ≤ length (now out) ⌝ }
+    ensures { λ r. ⌜ ((p : Printer) (v : Pending) → Current p v (Waiting.Arguments (Begun.SecondOf c a)) (now (m .entry))
+        → StepPromise p v b r (now (m .exit)) (now (out .entry)) at (now (out .exit))) ⌝ }
+{
+    match c {
+        Two::Move(k) => whole(move_by(m, k, a, b, out, at)),
+        Two::Image(d) => waits(image_wait(d, a as u16 + 256 * (b as u16)), at),
+    }
+}
+
+// An argument of an escape, by those so far.
+pub(crate) fn argument_step(
+    m: &mut [u32; COUNT],
+    w: Begun,
+    b: u8,
+    out: &mut [u8],
+    at: usize,
+) -> Stepping
+    requires { ⌜ at + recordSize ≤ length (now out) ⌝ }
+    ensures { λ r. ⌜ ((p : Printer) (v : Pending) → Current p v (Waiting.Arguments w) (now (m .entry))
+        → StepPromise p v b r (now (m .exit)) (now (out .entry)) at (now (out .exit))) ⌝ }
+{
+    match w {
+        Begun::One(c) => whole(one_argument(m, c, b, out, at)),
+        Begun::PageLength => page_step(m, b, out, at),
+        Begun::PageInches => whole(page(m, Page::Inches(b), out, at)),
+        Begun::FirstOf(c) => waits(Waiting::Arguments(Begun::SecondOf(c, b)), at),
+        Begun::SecondOf(c, a) => two_step(m, c, a, b, out, at),
+    }
+}
+
+// A byte of a stop list: one that is not above the byte before ends it.
+pub(crate) fn list_step(
+    m: &mut [u32; COUNT],
+    t: Tabs,
+    before: u8,
+    b: u8,
+    out: &mut [u8],
+    at: usize,
+) -> Stepping
+    requires { ⌜ at + recordSize ≤ length (now out) ⌝ }
+    ensures { λ r. ⌜ ((p : Printer) (v : Pending) → Current p v (Waiting.StopList t before) (now (m .entry))
+        → StepPromise p v b r (now (m .exit)) (now (out .entry)) at (now (out .exit))) ⌝ }
+{
+    if b <= before {
+        end_list(m, t);
+        return whole(at);
+    }
+    waits(Waiting::StopList(t, b), list_byte(m, t, b, out, at))
 }

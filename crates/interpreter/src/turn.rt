@@ -1,13 +1,19 @@
-// A turn of a reading call: letters or image bytes that follow each other on a line, or one byte of any kind.
+// A turn of a reading call: letters and control bytes until something is waited for; image bytes on a line; or one byte of an escape or a list.
 use crate::letters::image_byte;
 use crate::letters::image_record;
+use crate::letters::letter;
 use crate::letters::letter_record;
 use crate::series::least;
-use crate::series::letters_in;
-use crate::series::most_here;
-use crate::series::place_first;
-use crate::steps::first_step;
-use crate::steps::step;
+use crate::series::place_run;
+use crate::steps::Stepping;
+use crate::steps::argument_step;
+use crate::steps::control_step;
+use crate::steps::list_step;
+use crate::steps::second_step;
+use framing::codes;
+use framing::image_wait;
+use framing::prints;
+use framing::upper_letters;
 use measures::widths::image_step;
 use printer::commands::Density;
 use printer::commands::Waiting;
@@ -17,15 +23,20 @@ use registers::ADVANCE;
 use registers::COUNT;
 use registers::UPPER_PRINTS;
 ghost use mathlib.Core.Path.{_≡_};
+ghost use mathlib.Core.Bool.{true};
 ghost use Prim.Native.Nat.{_+_, _≤_, _<_};
-ghost use lib.ListN.{length, take, getD};
+ghost use lib.ListN.{length, getD};
+ghost use Rattle.printer.specs.Tools.{pick};
 ghost use Rattle.printer.specs.Records.{roomForByte};
-ghost use Rattle.printer.specs.Framing.{imageWait};
 ghost use Rattle.printer.specs.declared.commands.Waiting.{Waiting};
 ghost use Rattle.printer.specs.declared.state.Printer.{Printer};
 ghost use Rattle.registers.specs.declared.pending.Pending.{Pending};
 ghost use Rattle.registers.specs.Groups.{isSet};
-ghost use Rattle.interpreter.specs.Taking.{Current, Kept, Fits, Letters, TurnPromise};
+ghost use Rattle.framing.specs.Letters.{printsFrom};
+ghost use Rattle.interpreter.specs.Taking.{Current, Kept, afterByte, TurnPromise};
+
+// The room that a byte's records may take: it writes at most two.
+pub(crate) const ROOM: usize = 2 * Record::SIZE;
 
 // What is waited for after a turn, the bytes that it read and wrote, and what is left of the allowance.
 pub(crate) struct Turned {
@@ -35,69 +46,71 @@ pub(crate) struct Turned {
     pub left: usize,
 }
 
-// The first byte, of any kind.
-fn take_byte(
-    waiting: Waiting,
+// A turn of one byte, by its step.
+fn after_byte(s: Stepping, allowance: usize) -> Turned
+    requires { ⌜ 0 < allowance ⌝ }
+    ensures { λ r. ⌜ r ≡ afterByte s allowance ⌝ }
+{
+    let next = s.waiting;
+    let left = allowance - 1;
+    Turned {
+        waiting: next,
+        read: 1,
+        written: s.written,
+        left,
+    }
+}
+
+// Letters from here, the first of which is one: those that are placed on this line, or else that one.
+fn take_letters(
     m: &mut [u32; COUNT],
+    from: u8,
     input: &[u8],
     out: &mut [u8],
     allowance: usize,
 ) -> Turned
+    requires { ⌜ Kept Waiting.Nothing (now m) ⌝ }
     requires { ⌜ (0 < length (now input)) × (roomForByte ≤ length (now out)) ⌝ }
-    requires { ⌜ length (now input) ≤ allowance ⌝ }
-    ensures { λ r. ⌜ ((p : Printer) (v : Pending) → Current p v waiting (now (m .entry))
-        → TurnPromise p v (now (input .entry)) (now (out .entry)) r (now (m .exit)) (now (out .exit))) ⌝ }
-    ensures { λ r. ⌜ (0 < r .read) × (r .left + r .read ≡ allowance) ⌝ }
-{
-    let s = step(waiting, m, input[0], out, 0);
-    let next = s.waiting;
-    let left = allowance - 1;
-    Turned {
-        waiting: next,
-        read: 1,
-        written: s.written,
-        left,
-    }
-}
-
-// Between commands, the first byte alone.
-fn take_first(m: &mut [u32; COUNT], input: &[u8], out: &mut [u8], allowance: usize) -> Turned
-    requires { ⌜ (0 < length (now input)) × (roomForByte ≤ length (now out)) ⌝ }
-    requires { ⌜ length (now input) ≤ allowance ⌝ }
+    requires { ⌜ (length (now input) ≤ allowance) × (from ≡ pick (isSet (getD (now m) 33 0)) 0x80 0xA0) ⌝ }
+    requires { ⌜ printsFrom from (getD (now input) 0 0) ≡ true ⌝ }
     ensures { λ r. ⌜ ((p : Printer) (v : Pending) → Current p v Waiting.Nothing (now (m .entry))
         → TurnPromise p v (now (input .entry)) (now (out .entry)) r (now (m .exit)) (now (out .exit))) ⌝ }
     ensures { λ r. ⌜ (0 < r .read) × (r .left + r .read ≡ allowance) ⌝ }
 {
-    let s = first_step(m, input[0], out, 0);
-    let next = s.waiting;
-    let left = allowance - 1;
+    let v = letter_record(&*m, 0);
+    let step = Units(m[ADVANCE]);
+    let placed = place_run(
+        &mut *m,
+        v,
+        from,
+        step,
+        input.len(),
+        input,
+        &mut *out,
+        allowance,
+    );
+    let n = placed.count;
+    if n == 0 {
+        let written = letter(m, input[0], out, 0);
+        let left = allowance - 1;
+        return Turned {
+            waiting: Waiting::Nothing,
+            read: 1,
+            written,
+            left,
+        };
+    }
+    let written = Record::SIZE * n;
     Turned {
-        waiting: next,
-        read: 1,
-        written: s.written,
-        left,
+        waiting: Waiting::Nothing,
+        read: n,
+        written,
+        left: placed.left,
     }
 }
 
-// How many letters are placed from here: none if the first byte is no letter, or does not fit.
-fn letters_here(m: &[u32; COUNT], input: &[u8], room: usize) -> usize
-    requires { ⌜ (0 < length (now input)) × (roomForByte ≤ room) ⌝ }
-    requires { ⌜ (0 < getD (now m) 35 0) × (getD (now m) 4 0 ≤ getD (now m) 7 0) ⌝ }
-    ensures { λ n. ⌜ Fits n (length (now (input .entry))) room (getD (now (m .entry)) 4 0) (getD (now (m .entry)) 35 0) (getD (now (m .entry)) 7 0)
-        × Letters (isSet (getD (now (m .entry)) 33 0)) (take n (now (input .entry))) ⌝ }
-{
-    let upper = m[UPPER_PRINTS] == 1;
-    let letter = framing::is_letter(upper, input[0]);
-    if letter {
-        let step = Units(m[ADVANCE]);
-        let most = most_here(m, step, input.len(), room);
-        return letters_in(upper, input, most);
-    }
-    0
-}
-
-// Between commands: the letters that are placed from here, or else one byte.
-fn take_letters(m: &mut [u32; COUNT], input: &[u8], out: &mut [u8], allowance: usize) -> Turned
+// Between commands: letters, or one byte that is no letter.
+fn take_here(m: &mut [u32; COUNT], input: &[u8], out: &mut [u8], allowance: usize) -> Turned
     requires { ⌜ Kept Waiting.Nothing (now m) ⌝ }
     requires { ⌜ (0 < length (now input)) × (roomForByte ≤ length (now out)) ⌝ }
     requires { ⌜ length (now input) ≤ allowance ⌝ }
@@ -105,30 +118,62 @@ fn take_letters(m: &mut [u32; COUNT], input: &[u8], out: &mut [u8], allowance: u
         → TurnPromise p v (now (input .entry)) (now (out .entry)) r (now (m .exit)) (now (out .exit))) ⌝ }
     ensures { λ r. ⌜ (0 < r .read) × (r .left + r .read ≡ allowance) ⌝ }
 {
-    let n = letters_here(&*m, input, out.len());
-    if n == 0 {
-        return take_first(m, input, out, allowance);
+    let upper = m[UPPER_PRINTS] == 1;
+    let from = upper_letters(upper);
+    let b = input[0];
+    let letter = prints(from, b);
+    if letter {
+        return take_letters(m, from, input, out, allowance);
     }
-    let v = letter_record(&*m, 0);
-    let step = Units(m[ADVANCE]);
-    let left = place_first(m, v, step, n, input, out, allowance);
-    let written = Record::SIZE * n;
+    let s = control_step(m, framing::first(upper, b), b, out, 0);
+    let next = s.waiting;
+    let left = allowance - 1;
     Turned {
-        waiting: Waiting::Nothing,
-        read: n,
-        written,
+        waiting: next,
+        read: 1,
+        written: s.written,
         left,
     }
 }
 
-// Image data of so many columns is waited for; none is nothing.
-fn image_left(d: Density, columns: u16) -> Waiting
-    ensures { λ r. ⌜ r ≡ imageWait d columns ⌝ }
+// Whether letters and control bytes may follow: nothing is waited for, and there is input and room for a byte.
+fn goes_on(w: Waiting, input: usize, room: usize) -> bool
+    ensures { λ r. ⌜ (r ≡ true → (w ≡ Waiting.Nothing) × ((0 < input) × (roomForByte ≤ room))) ⌝ }
 {
-    if columns == 0 {
-        return Waiting::Nothing;
+    match w {
+        Waiting::Nothing => (0 < input) & (ROOM <= room),
+        _ => false,
     }
-    Waiting::ImageData(d, columns)
+}
+
+// Between commands: letters and control bytes, until something is waited for, or the input or the room ends.
+fn take_text(m: &mut [u32; COUNT], input: &[u8], out: &mut [u8], allowance: usize) -> Turned
+    requires { ⌜ Kept Waiting.Nothing (now m) ⌝ }
+    requires { ⌜ (0 < length (now input)) × (roomForByte ≤ length (now out)) ⌝ }
+    requires { ⌜ length (now input) ≤ allowance ⌝ }
+    ensures { λ r. ⌜ ((p : Printer) (v : Pending) → Current p v Waiting.Nothing (now (m .entry))
+        → TurnPromise p v (now (input .entry)) (now (out .entry)) r (now (m .exit)) (now (out .exit))) ⌝ }
+    ensures { λ r. ⌜ (0 < r .read) × (r .left + r .read ≡ allowance) ⌝ }
+{
+    let mut at: usize = 0;
+    let mut written: usize = 0;
+    let mut left = allowance;
+    loop {
+        let t = take_here(&mut *m, &input[at..], &mut out[written..], left);
+        let next = t.waiting;
+        at += t.read;
+        written += t.written;
+        left = t.left;
+        let more = goes_on(next, input.len() - at, out.len() - written);
+        if !more {
+            return Turned {
+                waiting: next,
+                read: at,
+                written,
+                left,
+            };
+        }
+    }
 }
 
 // In image data, the first byte alone.
@@ -151,7 +196,7 @@ fn take_image(
     let rest = columns - 1;
     let left = allowance - 1;
     Turned {
-        waiting: image_left(d, rest),
+        waiting: image_wait(d, rest),
         read: 1,
         written,
         left,
@@ -174,25 +219,25 @@ fn take_images(
         → TurnPromise p v (now (input .entry)) (now (out .entry)) r (now (m .exit)) (now (out .exit))) ⌝ }
     ensures { λ r. ⌜ (0 < r .read) × (r .left + r .read ≡ allowance) ⌝ }
 {
+    let v = image_record(&*m, d, 0);
     let step = image_step(d);
-    let most = most_here(&*m, step, input.len(), out.len());
-    let n = least(columns as usize, most);
+    let some = least(columns as usize, input.len());
+    let placed = place_run(&mut *m, v, 0, step, some, input, &mut *out, allowance);
+    let n = placed.count;
     if n == 0 {
         return take_image(d, columns, m, input, out, allowance);
     }
-    let v = image_record(&*m, d, 0);
-    let left = place_first(m, v, step, n, input, out, allowance);
     let written = Record::SIZE * n;
     let rest = columns - n as u16;
     Turned {
-        waiting: image_left(d, rest),
+        waiting: image_wait(d, rest),
         read: n,
         written,
-        left,
+        left: placed.left,
     }
 }
 
-// Letters or image bytes that follow each other, or one byte; of so much input as the allowance covers.
+// By what is waited for: letters and control bytes, image bytes, or one byte of an escape or a list. The allowance covers the input.
 pub(crate) fn turn(
     waiting: Waiting,
     m: &mut [u32; COUNT],
@@ -207,9 +252,15 @@ pub(crate) fn turn(
         → TurnPromise p v (now (input .entry)) (now (out .entry)) r (now (m .exit)) (now (out .exit))) ⌝ }
     ensures { λ r. ⌜ (0 < r .read) × (r .left + r .read ≡ allowance) ⌝ }
 {
+    let b = input[0];
     match waiting {
-        Waiting::Nothing => take_letters(m, input, out, allowance),
+        Waiting::Nothing => take_text(m, input, out, allowance),
+        Waiting::SecondByte => after_byte(
+            second_step(m, codes::second_of(b), b, out, 0),
+            allowance,
+        ),
+        Waiting::Arguments(w) => after_byte(argument_step(m, w, b, out, 0), allowance),
+        Waiting::StopList(t, before) => after_byte(list_step(m, t, before, b, out, 0), allowance),
         Waiting::ImageData(d, n) => take_images(d, n, m, input, out, allowance),
-        _ => take_byte(waiting, m, input, out, allowance),
     }
 }

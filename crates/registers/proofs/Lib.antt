@@ -10,3 +10,4 @@ pub mod Types
 pub mod StopLists
 pub mod Waiting
 pub mod State
+pub mod Styles

@@ -5,7 +5,7 @@ use mathlib.Core.Bool.{Bool, true, false, _&&_}
 use mathlib.Core.List.{List, [], _∷_, _++_}
 use native.Mathlib.Omega.{arith}
 use lib.Dec.{eqb, leb}
-use lib.ListN.{length, take, drop, getD}
+use lib.ListN.{length, take, drop, getD, length-append}
 use lib.Seq.{drop-drop, drop-at, take-at, getD-drop}
 use borrow.Author.Tests.{eqb-true, leb-true}
 use Rattle.printer.specs.Tools.{pick, Holds}
@@ -94,6 +94,11 @@ module _ {p : Printer} (h : Plain p) where
 -- two printers with the same registers are the same
 pub registers-tell : {p q : Printer} → Plain p → Plain q → registersOf p ≡ registersOf q → p ≡ q
 registers-tell h k e = sym (registers-read h) ∙ ap printerIn e ∙ registers-read k
+
+-- how many there are
+pub words-long : (v : Pending) (d : Derived) (p : Printer) → StopsTyped (p .stops) → length (laid v d p) ≡ registerCount
+unfolding laid
+words-long v d p t = simp length-append (omega (arith, t .columns, t .lines, t .gathered))
 
 -- Bounds say more than types of some numbers
 

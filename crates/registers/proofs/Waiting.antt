@@ -2,16 +2,19 @@
 use Prim.Native.Nat.{ℕ, _+_, _*_, _%_, _≤_}
 use mathlib.Core.Path.{_≡_, refl}
 use mathlib.Core.Bool.{Bool, false}
-use mathlib.Core.List.{List, [], _∷_}
+use mathlib.Core.List.{List, [], _∷_, _++_, map}
 use native.Mathlib.Omega.{arith}
 use lib.Dec.{eqb}
-use Rattle.printer.specs.Tools.{Bytes, Each, lookup}
+use borrow.Author.Tests.{eqb-true}
+use Rattle.printer.specs.Tools.{Bytes, Each, lookup, coded}
 use Rattle.printer.specs.Accepted.{waitingTyped}
-use Rattle.printer.specs.Codes.{begunBy}
-use Rattle.printer.specs.Framing.{frame}
+use Rattle.printer.specs.Codes.{begunBy, secondCode, seconds, plainEscapes, argumentEscapes, otherEscapes}
+use Rattle.printer.specs.Escapes.{modes, looks, parameters, choices}
+use Rattle.printer.specs.Framing.{escapes, secondFrame, frame}
 use Rattle.printer.specs.Steps.{nextIn}
 use Rattle.printer.specs.declared.commands.Begun.{Begun}
 use Rattle.printer.specs.declared.commands.Frame.{Frame}
+use Rattle.printer.specs.declared.commands.Second.{Second}
 use Rattle.printer.specs.declared.commands.Tabs.{Tabs}
 use Rattle.printer.specs.declared.commands.Two.{Two}
 use Rattle.printer.specs.declared.commands.Waiting.{Waiting}
@@ -21,6 +24,29 @@ use Rattle.printer.proofs.Listed.{every-listed, two-byte}
 use Rattle.registers.specs.declared.pending.Pending.{Pending}
 use Rattle.registers.specs.State.{pending, pendingBytes, pendingOf, begins, argued, resumed, imaged, kinds, waitingOf, pendingIn, imageTyped}
 use Rattle.registers.proofs.Laws.{byte-back}
+
+-- what a second byte begins is found in the rest of the table: the escapes before it begin nothing
+
+abbrev next : Second → ℕ → Waiting
+next s b = nextIn (secondFrame s b)
+
+abbrev found : List Second → ℕ → Second
+found l b = lookup (coded secondCode l) Second.Unlisted b
+
+-- elements whose codes begin no other in the rest may be left out
+left-out : (l rest : List Second) (b : ℕ)
+    → map (λ (s : Second). next s (secondCode s)) l ≡ map (λ (s : Second). next (found rest (secondCode s)) (secondCode s)) l
+    → next (found (l ++ rest) b) b ≡ next (found rest b) b
+unfolding lookup coded
+left-out [] rest b h = refl
+left-out (s ∷ l) rest b h =
+    let first : next s (secondCode s) ≡ next (found rest (secondCode s)) (secondCode s) = cc in
+    pick-elim (λ (x : Second). next x b ≡ next (found rest b) b) (eqb b (secondCode s))
+    (λ e. rw (eqb-true b (secondCode s) e) first) (λ _. left-out l rest b cc)
+
+pub begins-found : (b : ℕ) → begins b ≡ next (found (argumentEscapes ++ otherEscapes) b) b
+unfolding lookup coded frame escapes seconds plainEscapes argumentEscapes otherEscapes modes looks parameters choices
+begins-found b = left-out plainEscapes (argumentEscapes ++ otherEscapes) b refl
 
 -- reading its numbers gives it back
 

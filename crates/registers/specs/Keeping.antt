@@ -1,15 +1,68 @@
--- What follows from the settings, stored anew.
-use Prim.Native.Nat.{ℕ}
+-- What follows from the settings, kept as they change.
+use Prim.Native.Nat.{ℕ, _+_, _*_, _-_, _%_}
 use mathlib.Core.List.{List}
-use lib.ListN.{set}
-use Rattle.printer.specs.Records.{styleOf}
+use lib.Bits.{bitOr}
+use lib.ListN.{getD, set}
 use Rattle.printer.specs.Widths.{advance, columnWidth}
-use Rattle.registers.specs.Groups.{widthIn, settingsIn}
+use Rattle.printer.specs.declared.settings.Width.{Width}
+use Rattle.registers.specs.declared.derived.Shown.{Shown}
+use Rattle.registers.specs.Groups.{widthIn}
 
--- the style bits that the settings in the registers have
-unfoldable pub styled : List ℕ → List ℕ
-styled m = set m 34 (styleOf (settingsIn m))
+-- the settings of one register that show in the style bits: the register, and the value of the lowest bit
 
--- the advance and the column width too
+abbrev pub registerOf : Shown → ℕ
+registerOf Shown.Bold = 20
+registerOf Shown.DoubleStrike = 21
+registerOf Shown.Italic = 22
+registerOf Shown.Underline = 23
+registerOf Shown.Superscript = 24
+registerOf Shown.Subscript = 25
+registerOf Shown.DoubleHeight = 29
+registerOf Shown.Outline = 28
+registerOf Shown.Proportional = 19
+registerOf Shown.Reduced = 18
+registerOf Shown.ItalicTable = 30
+registerOf Shown.Download = 31
+
+abbrev pub weightOf : Shown → ℕ
+weightOf Shown.Bold = 0x1
+weightOf Shown.DoubleStrike = 0x2
+weightOf Shown.Italic = 0x4
+weightOf Shown.Underline = 0x8
+weightOf Shown.Superscript = 0x10
+weightOf Shown.Subscript = 0x20
+weightOf Shown.DoubleHeight = 0x80
+weightOf Shown.Outline = 0x100
+weightOf Shown.Proportional = 0x400
+weightOf Shown.Reduced = 0x800
+weightOf Shown.ItalicTable = 0x1000
+weightOf Shown.Download = 0x2000
+
+-- what a number in its register shows
+abbrev pub shows : Shown → ℕ → ℕ
+shows k n = n % 4 * weightOf k
+
+-- what the two registers of double width show
+abbrev pub showsDouble : (wide once : ℕ) → ℕ
+showsDouble wide once = bitOr wide once % 2 * 0x40
+
+-- the style bits less what a setting showed, and what it shows now
+abbrev pub restyled : List ℕ → (showed shown : ℕ) → List ℕ
+restyled m showed shown = set m 34 ((getD m 34 0 % 0x10000 + 0x10000 - showed + shown) % 0x10000)
+
+-- such a setting stored
+unfoldable pub shownStored : List ℕ → Shown → ℕ → List ℕ
+shownStored m k n = restyled (set m (registerOf k) n) (shows k (getD m (registerOf k) 0)) (shows k n)
+
+-- double width
+unfoldable pub doubleStored : List ℕ → (wide once : ℕ) → List ℕ
+doubleStored m wide once =
+    restyled (set (set m 16 wide) 17 once) (showsDouble (getD m 16 0) (getD m 17 0)) (showsDouble wide once)
+
+-- the advance and the column width of a width
+abbrev pub widthsStored : Width → List ℕ → List ℕ
+widthsStored w m = set (set m 35 (advance w)) 36 (columnWidth w)
+
+-- those of the width in the registers
 unfoldable pub measured : List ℕ → List ℕ
-measured m = set (set (styled m) 35 (advance (widthIn m))) 36 (columnWidth (widthIn m))
+measured m = widthsStored (widthIn m) m

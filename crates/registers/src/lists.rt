@@ -1,7 +1,7 @@
 // Lists of tab stops where they stand: their order, and the last of them.
 ghost use mathlib.Core.Path.{_≡_};
 ghost use Prim.Native.Nat.{min};
-ghost use lib.ListN.{length, take};
+ghost use lib.ListN.{take};
 ghost use Rattle.printer.specs.Bounds.{listBounds, lastOf};
 ghost use Rattle.printer.specs.Tools.{holds};
 

@@ -65,7 +65,7 @@ pub fn pending_of(w: Waiting) -> Pending
 fn begins(code: u8) -> Waiting
     ensures { λ r. ⌜ r ≡ begins code ⌝ }
 {
-    let second = codes::second_of(code);
+    let second = codes::begun_of(code);
     match second {
         Second::Control(_) => Waiting::Nothing,
         Second::Reset => Waiting::Nothing,
@@ -153,7 +153,7 @@ fn waiting_begun(v: Pending) -> Waiting
 }
 
 // What the numbers are read as.
-pub fn waiting_of(v: Pending) -> Waiting
+pub(crate) fn waiting_of(v: Pending) -> Waiting
     ensures { λ r. ⌜ r ≡ waitingOf v ⌝ }
 {
     let kind = v.kind;
@@ -165,7 +165,7 @@ pub fn waiting_of(v: Pending) -> Waiting
 }
 
 // The numbers in the registers, as their types hold them.
-pub fn pending_in(m: &[u32; COUNT]) -> Pending
+pub(crate) fn pending_in(m: &[u32; COUNT]) -> Pending
     ensures { λ r. ⌜ r ≡ pendingIn (now (m .entry)) ⌝ }
 {
     Pending {
@@ -176,7 +176,7 @@ pub fn pending_in(m: &[u32; COUNT]) -> Pending
     }
 }
 
-pub fn waiting_in(m: &[u32; COUNT]) -> Waiting
+pub(crate) fn waiting_in(m: &[u32; COUNT]) -> Waiting
     ensures { λ r. ⌜ r ≡ waitingOf (pendingIn (now (m .entry))) ⌝ }
 {
     waiting_of(pending_in(m))

@@ -1,9 +1,7 @@
 // Groups of the state stored in their registers.
 use crate::ACROSS;
-use crate::ADVANCE;
 use crate::AUTO_FEED;
 use crate::BOLD;
-use crate::COLUMN_WIDTH;
 use crate::COUNT;
 use crate::COUNTRY;
 use crate::DOTS_ACROSS;
@@ -33,10 +31,10 @@ use crate::UNDERLINE;
 use crate::UPPER_PRINTS;
 use crate::WIDE;
 use crate::WIDE_ONCE;
+use crate::derived::store_widths;
 use crate::groups::flag;
 use crate::groups::pitch_number;
 use measures::styles::style_of;
-use measures::widths;
 use printer::settings::Emphasis;
 use printer::settings::Face;
 use printer::settings::Margins;
@@ -152,8 +150,7 @@ fn store_derived(m: &mut [u32; COUNT], s: Settings)
 {
     let width = s.width;
     m[STYLE] = style_of(s) as u32;
-    m[ADVANCE] = widths::advance(width).0;
-    m[COLUMN_WIDTH] = widths::column_width(width).0;
+    store_widths(m, width);
 }
 
 // The settings, with what follows from them.

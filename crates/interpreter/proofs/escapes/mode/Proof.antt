@@ -21,7 +21,7 @@ unfolding laid styleOf
 returns-3 c p v h = rw (c .enum-told3 .given .1, h .same)
 
 returns-4 : tie.Need-returns-4
-unfolding laid
+unfolding laid styleOf
 returns-4 c p v h =
     let k = c .before .before .before .before .k .given in
     let s = withWidth (p .settings) (withPitch (p .settings .width) (k .0 .0)) in

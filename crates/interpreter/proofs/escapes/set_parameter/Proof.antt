@@ -1,11 +1,10 @@
 -- Each escape's registers; those of the width keep the widths.
 use Prim.Native.Nat.{_%_}
-use mathlib.Core.Path.{refl, ap, _∙_}
+use mathlib.Core.Path.{refl}
 use native.Mathlib.Omega.{arith}
 use Rattle.printer.specs.Records.{styleOf}
-use Rattle.printer.specs.Escapes.{switchedOn}
-use Rattle.printer.specs.Settings.{withWidth, withSpacing, withProportional}
-use Rattle.registers.specs.Layout.{flag, laid}
+use Rattle.printer.specs.Settings.{withWidth, withSpacing}
+use Rattle.registers.specs.Layout.{laid}
 use Rattle.interpreter.proofs.Setting.{width-stored}
 use borrow.Author.Needs.{needs}
 use Rattle.interpreter.proofs.escapes.set_parameter.Statement.{statement}
@@ -24,22 +23,18 @@ unfolding laid styleOf
 returns-3 c p v h = rw (c .enum-told3 .given .1, h .same)
 
 returns-4 : tie.Need-returns-4
-unfolding laid
+unfolding laid styleOf
 returns-4 c p v h =
     let s = withWidth (p .settings) (withSpacing (p .settings .width) (c .before .before .before .before .args .n % 128)) in
     rw (c .before .before .enum-told4 .given .1) (width-stored h s (omega arith, h .small .1) 15 refl (c .store-width .ensures) refl)
 
 returns-5 : tie.Need-returns-5
-unfolding laid
 returns-5 c p v h =
-    let b = c .before .before in
-    let s = withWidth (p .settings) (withProportional (p .settings .width) (switchedOn (b .before .before .before .before .args .n))) in
-    rw (b .before .before .enum-told5 .given .1)
-    (width-stored h s (h .small) 19 (c .before .flag .ensures ∙ ap flag (b .switched-on .ensures)) (c .store-width2 .ensures) refl)
+    rw (c .before .before .before .enum-told5 .given .1) (rw (c .before .switched-on .ensures) at (c .proportional .ensures p v h))
 
 returns-6 : tie.Need-returns-6
 unfolding laid styleOf
-returns-6 c p v h = rw (c .before .before .enum-told6 .given .1, c .flag2 .ensures, c .before .switched-off .ensures, h .same)
+returns-6 c p v h = rw (c .before .before .enum-told6 .given .1, c .flag .ensures, c .before .switched-off .ensures, h .same)
 
 returns-7 : tie.Need-returns-7
 returns-7 c p v h =
@@ -54,6 +49,6 @@ set-parameter-spec =
     (tie.spec (λ c. search needs) (λ c. search needs) (λ c. search needs) (λ c. search needs) (λ c. search needs)
     (λ c. search needs) (λ c. search needs) (λ c. search needs) (λ c. search needs) (λ c. search needs)
     (λ c. search needs) (λ c κs. search needs) (λ c. search needs) (λ c κs. search needs) (λ c κs. search needs)
-    (λ c κs. search needs) (λ c. search needs) (λ c κs. search needs) (λ c κs. search needs) (λ c. search needs)
-    (λ c. search needs) (λ c κs. search needs) (λ c κs. search needs) (λ c. search needs) (λ c κs. search needs)
+    (λ c. search needs) (λ c κs. search needs) (λ c κs. search needs) (λ c. search needs) (λ c. search needs)
+    (λ c κs. search needs) (λ c κs. search needs) (λ c. search needs) (λ c κs. search needs)
     returns returns-2 returns-3 returns-4 returns-5 returns-6 returns-7 returns-8)

@@ -4,7 +4,10 @@ use Rattle.interpreter.proofs.master.master_emphasis.Statement.{stateme
 use Rattle.interpreter.proofs.master.master_emphasis.Tie as tie
 
 returns : tie.Need-returns
-returns c = cc
+returns c =
+    let b3 = c .before .before in
+    let b2 = b3 .before .before in
+    rw (c .store-bit4 .ensures, b3 .store-bit3 .ensures, b2 .store-bit2 .ensures, b2 .before .before .store-bit .ensures)
 
 pub master-emphasis-spec : {M : Type 1} → statement M
 master-emphasis-spec =

@@ -1,17 +1,20 @@
 -- The flag stored, and the widths kept.
-use mathlib.Core.Path.{refl}
+use mathlib.Core.Path.{refl, _∙_}
 use borrow.Author.Needs.{needs}
 use Rattle.printer.specs.Settings.{withWidth, withReduced}
+use Rattle.registers.specs.declared.derived.Shown.{Shown}
 use Rattle.registers.specs.Layout.{laid}
-use Rattle.interpreter.proofs.Setting.{width-stored}
+use Rattle.registers.specs.Keeping.{shownStored}
+use Rattle.interpreter.proofs.Setting.{shown-measured}
 use Rattle.interpreter.proofs.settings.reduced.Statement.{statement}
 use Rattle.interpreter.proofs.settings.reduced.Tie as tie
 
 returns : tie.Need-returns
-unfolding laid
+unfolding laid shownStored
 returns c p v h =
-    let s = withWidth (p .settings) (withReduced (p .settings .width) (c .before .before .before .args .on)) in
-    width-stored h s (h .small) 18 (c .before .flag .ensures) (c .store-width .ensures) refl
+    let b = c .before .before in
+    let s = withWidth (p .settings) (withReduced (p .settings .width) (b .before .before .before .args .on)) in
+    c .keep-widths .ensures ∙ shown-measured h s Shown.Reduced (b .before .flag .ensures) (b .store-shown .ensures) (h .small) refl
 
 pub reduced-spec : {M : Type 1} → statement M
-reduced-spec = tie.close (tie.spec (λ c κs. search needs) (λ c κs. search needs) returns)
+reduced-spec = tie.close (tie.spec (λ c κs. search needs) (λ c κs. search needs) (λ c κs. search needs) returns)

@@ -15,7 +15,7 @@ returns c =
     let a = i .before .before .before .before .before .before in
     let b = getD (now (a .args .input)) 0 0 in (
       λ p v h.
-          rw (c .image-left .ensures)
+          rw (c .image-wait .ensures)
           (byte-taken (a .pre .1 .0 .0) (a .pre .1 .0 .1) (whole h b (image-frame h b refl) (i .image-byte .ensures p v (h .held)))),
       (omega arith, omega (arith, a .pre)),
     )

@@ -2,53 +2,78 @@
 use native.Mathlib.Omega.{arith}
 use borrow.Author.Needs.{needs}
 use mathlib.Core.Path.{refl}
-use Rattle.interpreter.proofs.SeriesLoop.{fewer-fit}
+use denote.Ref.{now}
+use lib.ListN.{length}
+use Rattle.interpreter.proofs.SeriesLoop.{more-input, not-moved, not-written}
 use Rattle.interpreter.proofs.Taken.{in-margins, right-most, step-positive, some-column, images-taken}
 use Rattle.interpreter.proofs.turn.take_images.Statement.{statement}
 use Rattle.interpreter.proofs.turn.take_images.Tie as tie
 
-most-here-requires : tie.Need-most-here-requires
-most-here-requires c κs =
-    let a = c .before .before .before .before in
-    ((rw (c .before .image-step .ensures) (step-positive (a .args .d)), a .pre .1 .0 .1), in-margins (a .pre .0 .current))
-
-take-image-requires : tie.Need-take-image-requires
-take-image-requires c κs =
-    let l = c .before .before .before in
-    let a = l .before .before .before .before .before .before in
-    let k = a .pre .0 .current in
-    (some-column k refl, a .pre .1)
-
-place-first-requires : tie.Need-place-first-requires
-place-first-requires c κs =
-    let l = c .before .before .before .before .before in
-    let f = fewer-fit {n = l .least .result} (l .before .most-here .ensures) (omega (arith, l .least .ensures)) in
+place-run-requires : tie.Need-place-run-requires
+place-run-requires c κs =
+    let l = c .before .before in
     let a = l .before .before .before .before .before .before in
     let k = a .pre .0 .current in (
       (
-        omega (arith, c .before .before .before .before .if1 .left),
-        (omega (arith, f .some-input, a .pre .1 .1), rw (l .before .before .before .image-step .ensures) (step-positive (a .args .d))),
+        rw (l .before .image-step .ensures) (step-positive (a .args .d)),
+        (omega (arith, l .least .ensures), omega (arith, l .least .ensures, a .pre .1 .1)),
       ),
-      (f, right-most k),
+      (a .pre .1 .0 .1, (in-margins k, right-most k)),
     )
+
+take-image-requires : tie.Need-take-image-requires
+take-image-requires c κs =
+    let i = c .before .before in
+    let r = i .before .before .before in
+    let a = r .before .before .before .before .before .before .before .before .before in
+    let same = not-moved (now (a .args .m)) _ (i .if1 .taken) (r .place-run .ensures .1 .0) in
+    let kept = not-written (i .if1 .taken) (r .place-run .ensures .1 .1 .0) in
+    (some-column (a .pre .0 .current) refl, ((a .pre .1 .0 .0, rw kept (a .pre .1 .0 .1)), a .pre .1 .1))
+
+returns : tie.Need-returns
+returns c =
+    let t = c .before .before in
+    let i = t .before .before .before in
+    let r = i .before .before .before in
+    let a = r .before .before .before .before .before .before .before .before .before in
+    let same = not-moved (now (a .args .m)) _ (i .if1 .taken) (r .place-run .ensures .1 .0) in
+    let kept = not-written (i .if1 .taken) (r .place-run .ensures .1 .1 .0) in
+    let q = t .take-image .ensures in
+    (rw (same, kept) at (q .0), q .1)
+
+sub-rest : tie.Need-sub-rest
+sub-rest c =
+    let r = c .before .before .before in
+    omega (arith, r .place-run .ensures .0 .0 .some-input, r .before .before .before .least .ensures)
+
+cast-rest : tie.Need-cast-rest
+cast-rest c =
+    let r = c .before .before .before in
+    let l = r .before .before .before in
+    let a = l .before .before .before .before .before .before in
+    record { fits = omega (arith, r .place-run .ensures .0 .0 .some-input, l .least .ensures, a .good .1 .0) }
+
+mul-written : tie.Need-mul-written
+mul-written c =
+    let r = c .before .before .before in
+    let a = r .before .before .before .before .before .before .before .before .before in
+    record { fits = omega (arith, r .place-run .ensures .0 .0 .some-room, a .good .1 .1 .1 .1 .0) }
 
 returns-2 : tie.Need-returns-2
 returns-2 c =
-    let r = c .before .before .before in
-    let t = r .before .before .before in
-    let e = t .before .before in
-    let l = e .before in
-    let s = l .before .before .before .image-step .ensures in
-    let f = fewer-fit {n = l .least .result} (l .before .most-here .ensures) (omega (arith, l .least .ensures)) in
-    let q = r .place-first .ensures in (
+    let r = c .before .before .before .before in
+    let l = r .before .before .before in
+    let s = l .before .image-step .ensures in
+    let a = l .before .before .before .before .before .before in
+    let q = r .place-run .ensures in (
       λ p v h.
-          rw (q .0, c .image-left .ensures, s)
-          (images-taken h _ refl (omega (arith, l .least .ensures)) (rw s at f) (t .image-record .ensures p v (h .held)) (rw s at (q .1 .0))),
-      (omega (arith, e .if1 .left), q .1 .1),
+          rw (q .1 .0, c .image-wait .ensures, s)
+          (images-taken h _ refl (omega (arith, q .0 .0 .some-input, l .least .ensures)) (rw s at (more-input {input = length (now (a .args .input))} (q .0 .0) (omega (arith, l .least .ensures)))) (l .before .before .image-record .ensures p v (h .held)) (rw s at (q .1 .1 .0))),
+      (omega (arith, c .before .if1 .left), q .1 .1 .1),
     )
 
 pub take-images-spec : {M : Type 1} → statement M
 take-images-spec =
     tie.close
-    (tie.spec (λ c κs. search needs) most-here-requires (λ c κs. search needs) take-image-requires (λ c. search needs) (λ c. c .before .before .take-image .ensures) (λ c κs. search needs) place-first-requires (λ c. search needs)
-    (λ c. search needs) (λ c. search needs) (λ c κs. search needs) (λ c. search needs) returns-2)
+    (tie.spec (λ c κs. search needs) (λ c κs. search needs) (λ c κs. search needs) place-run-requires take-image-requires (λ c. search needs) returns
+    mul-written cast-rest sub-rest (λ c κs. search needs) (λ c. search needs) returns-2)

@@ -1,44 +1,72 @@
--- Letters on the registers, or else one byte: see Taken.
+-- Letters on the registers, or else one: see Taken.
+use mathlib.Core.Path.{_≡_, refl, sym}
 use native.Mathlib.Omega.{arith}
 use borrow.Author.Needs.{needs}
-use mathlib.Core.Path.{refl}
-use Rattle.interpreter.proofs.Taken.{in-margins, right-most, advances, letters-taken}
+use denote.Ref.{now}
+use lib.ListN.{take, getD}
+use Rattle.registers.specs.Groups.{isSet}
+use Rattle.interpreter.proofs.Following.{letter-from, letters-from}
+use Rattle.interpreter.proofs.SeriesLoop.{not-moved, not-written}
+use Rattle.interpreter.proofs.Stepping.{letter-frame, whole}
+use Rattle.interpreter.proofs.Taken.{in-margins, right-most, advances, byte-taken, letters-taken}
 use Rattle.interpreter.proofs.turn.take_letters.Statement.{statement}
 use Rattle.interpreter.proofs.turn.take_letters.Tie as tie
 
-letters-here-requires : tie.Need-letters-here-requires
-letters-here-requires c κs =
-    let a = c .before .before .before in
+place-run-requires : tie.Need-place-run-requires
+place-run-requires c κs =
+    let a = c .before .before .before .before .before .before .before in
     let k = a .pre .0 .current in
-    (a .pre .1 .0, (advances k, in-margins k))
+    ((advances k, (omega arith, a .pre .1 .1 .0 .0)), (a .pre .1 .0 .1, (in-margins k, right-most k)))
 
-place-first-requires : tie.Need-place-first-requires
-place-first-requires c κs =
-    let l = c .before .before .before .before .before .before in
-    let f = l .letters-here .ensures .0 in
-    let a = l .before .before .before .before in
-    let k = a .pre .0 .current in
-    ((omega (arith, c .before .before .before .before .before .if1 .left), (omega (arith, f .some-input, a .pre .1 .1), advances k)), (f, right-most k))
+letter-requires : tie.Need-letter-requires
+letter-requires c κs =
+    let i = c .before .before .before in
+    let r = i .before .before .before in
+    let a = r .before .before .before .before .before .before .before .before in
+    let same = not-moved (now (a .args .m)) (getD (now (a .args .m)) 35 0) (i .if1 .taken) (r .place-run .ensures .1 .0) in
+    let kept = not-written (i .if1 .taken) (r .place-run .ensures .1 .1 .0) in
+    rw kept (omega (arith, a .pre .1 .0 .1))
+
+sub-left : tie.Need-sub-left
+sub-left c =
+    let a = c .before .before .before .before .before .before .before .before .before .before .before .before .before .before .before .before .before in
+    omega (arith, a .pre .1 .0 .0, a .pre .1 .1 .0 .0)
+
+returns : tie.Need-returns
+returns c =
+    let s = c .before .before in
+    let i = s .before .before .before .before in
+    let r = i .before .before .before in
+    let a = r .before .before .before .before .before .before .before .before in
+    let same = not-moved (now (a .args .m)) (getD (now (a .args .m)) 35 0) (i .if1 .taken) (r .place-run .ensures .1 .0) in
+    let kept = not-written (i .if1 .taken) (r .place-run .ensures .1 .1 .0) in (
+      λ p v h.
+          byte-taken (a .pre .1 .0 .0) (a .pre .1 .0 .1)
+          (whole h _ (letter-frame h _ refl (letter-from _ _ (a .pre .1 .1 .0 .1) (a .pre .1 .1 .1)))
+          (rw (same, kept) at (s .letter .ensures) p v (h .held))),
+      (omega arith, omega (arith, a .pre .1 .0 .0, a .pre .1 .1 .0 .0)),
+    )
 
 mul-written : tie.Need-mul-written
 mul-written c =
-    let l = c .before .before .before .before .before .before .before .before .before in
-    let a = l .before .before .before .before in
-    record { fits = omega (arith, l .letters-here .ensures .0 .some-room, a .good .1 .1 .0) }
+    let r = c .before .before .before in
+    let a = r .before .before .before .before .before .before .before .before in
+    record { fits = omega (arith, r .place-run .ensures .0 .0 .some-room, a .good .1 .1 .1 .0) }
 
 returns-2 : tie.Need-returns-2
 returns-2 c =
-    let r = c .before .before in
+    let r = c .before .before .before in
     let t = r .before .before .before .before in
-    let e = t .before .before in
-    let l = e .before in
-    let q = r .place-first .ensures in (
-      λ p v h. rw (q .0) (letters-taken h _ refl (l .letters-here .ensures .0) (l .letters-here .ensures .1) (t .letter-record .ensures p v (h .held)) (q .1 .0)),
-      (omega (arith, e .if1 .left), q .1 .1),
+    let a = t .before .before .before .before in
+    let q = r .place-run .ensures in (
+      λ p v h.
+          rw (q .1 .0)
+          (letters-taken h _ refl (q .0 .0) (letters-from (isSet (getD (now (a .args .m)) 33 0)) (take (r .place-run .result .count) (now (a .args .input))) (a .pre .1 .1 .0 .1) (q .0 .1)) (t .letter-record .ensures p v (h .held)) (q .1 .1 .0)),
+      (omega (arith, c .if1 .left), q .1 .1 .1),
     )
 
 pub take-letters-spec : {M : Type 1} → statement M
 take-letters-spec =
     tie.close
-    (tie.spec letters-here-requires (λ c κs. search needs) (λ c. search needs) (λ c. c .before .before .take-first .ensures)
-    (λ c κs. search needs) (λ c. search needs) place-first-requires mul-written (λ c. search needs) returns-2)
+    (tie.spec (λ c κs. search needs) (λ c. search needs) place-run-requires (λ c. search needs) letter-requires sub-left
+    (λ c. search needs) returns mul-written (λ c. search needs) returns-2)

@@ -1,0 +1,33 @@
+-- An argument, by those so far.
+use mathlib.Core.Path.{refl}
+use borrow.Author.Needs.{needs}
+use Rattle.interpreter.proofs.Stepping.{argument-frame, waited, whole}
+use Rattle.interpreter.proofs.steps.argument_step.Statement.{statement}
+use Rattle.interpreter.proofs.steps.argument_step.Tie as tie
+
+returns : tie.Need-returns
+returns c p v h =
+    rw (c .whole .ensures)
+    (whole h _ (argument-frame h _ refl (c .before .before .before .before .before .before .before .w .given .1)) (c .before .before .before .one-argument .ensures p v (h .held) (h .accepted)))
+
+returns-2 : tie.Need-returns-2
+returns-2 c p v h = c .before .before .page-step .ensures p v (rw (c .before .before .before .before .before .enum-told .given .1) at h)
+
+returns-3 : tie.Need-returns-3
+returns-3 c p v h =
+    rw (c .whole2 .ensures)
+    (whole h _ (argument-frame h _ refl (c .before .before .before .before .before .before .enum-told2 .given .1)) (c .before .before .before .page .ensures p v (h .held)))
+
+returns-4 : tie.Need-returns-4
+returns-4 c p v h = rw (c .waits .ensures) (waited h _ (argument-frame h _ refl (c .before .before .w2 .given .1)))
+
+returns-5 : tie.Need-returns-5
+returns-5 c p v h = c .before .before .two-step .ensures p v (rw (c .before .before .before .before .before .before .w3 .given .1) at h)
+
+pub argument-step-spec : {M : Type 1} → statement M
+argument-step-spec =
+    tie.close
+    (tie.spec (λ c. search needs) (λ c κs. search needs) (λ c κs. search needs) (λ c. search needs) (λ c κs. search needs)
+    (λ c. search needs) (λ c κs. search needs) (λ c κs. search needs) (λ c. search needs) (λ c κs. search needs)
+    (λ c. search needs) (λ c κs. search needs) (λ c. search needs) returns (λ c. search needs) returns-2 (λ c. search needs)
+    returns-3 returns-4 (λ c. search needs) returns-5)
