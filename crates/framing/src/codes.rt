@@ -109,6 +109,7 @@ fn other_second(b: u8) -> Second
         b'Y' => Second::Begins(Begun::FirstOf(Two::Image(Density::DoubleSpeed))),
         b'Z' => Second::Begins(Begun::FirstOf(Two::Image(Density::Quadruple))),
         b'C' => Second::Begins(Begun::PageLength),
+        b'i' => Second::Begins(Begun::Advanced),
         b'D' => Second::List(Tabs::Horizontal),
         b'B' => Second::List(Tabs::Vertical),
         b'@' => Second::Reset,
@@ -219,6 +220,8 @@ pub fn begun_bytes(w: Begun) -> BegunBytes
         Begun::One(c) => BegunBytes::Code(one_code(c)),
         Begun::PageLength => BegunBytes::Code(b'C'),
         Begun::PageInches => BegunBytes::Argument(b'C', 0),
+        Begun::Advanced => BegunBytes::Code(b'i'),
+        Begun::CommandMode => BegunBytes::Argument(b'i', b'a'),
         Begun::FirstOf(c) => BegunBytes::Code(two_code(c)),
         Begun::SecondOf(c, a) => BegunBytes::Argument(two_code(c), a),
     }

@@ -26,7 +26,8 @@ use printer::commands::Two;
 use printer::commands::Waiting;
 use registers::COUNT;
 ghost use mathlib.Core.Path.{_≡_};
-ghost use Prim.Native.Nat.{_+_, _≤_};
+ghost use mathlib.Core.List.{List};
+ghost use Prim.Native.Nat.{ℕ, _+_, _≤_};
 ghost use lib.ListN.{length};
 ghost use Rattle.printer.specs.Accepted.{Accepted};
 ghost use Rattle.printer.specs.Deciding.{decide};
@@ -167,6 +168,31 @@ fn two_step(m: &mut [u32; COUNT], c: Two, a: u8, b: u8, out: &mut [u8], at: usiz
     }
 }
 
+// The third byte of ESC i.
+fn advanced_step(b: u8, out: &mut [u8], at: usize) -> Stepping
+    requires { ⌜ at + recordSize ≤ length (now out) ⌝ }
+    ensures { λ r. ⌜ ((p : Printer) (v : Pending) (m : List ℕ) → Current p v (Waiting.Arguments Begun.Advanced) m
+        → StepPromise p v b r m (now (out .entry)) at (now (out .exit))) ⌝ }
+{
+    match b {
+        b'a' => waits(Waiting::Arguments(Begun::CommandMode), at),
+        b'S' => whole(at),
+        _ => whole(write_passed(out, at, b, 1)),
+    }
+}
+
+// The argument of ESC i a: 0 keeps ESC/P mode.
+fn mode_step(n: u8, out: &mut [u8], at: usize) -> Stepping
+    requires { ⌜ at + recordSize ≤ length (now out) ⌝ }
+    ensures { λ r. ⌜ ((p : Printer) (v : Pending) (m : List ℕ) → Current p v (Waiting.Arguments Begun.CommandMode) m
+        → StepPromise p v n r m (now (out .entry)) at (now (out .exit))) ⌝ }
+{
+    if n == 0 {
+        return whole(at);
+    }
+    whole(write_passed(out, at, b'i', 2))
+}
+
 // An argument of an escape, by those so far.
 pub(crate) fn argument_step(
     m: &mut [u32; COUNT],
@@ -183,6 +209,8 @@ pub(crate) fn argument_step(
         Begun::One(c) => whole(one_argument(m, c, b, out, at)),
         Begun::PageLength => page_step(m, b, out, at),
         Begun::PageInches => whole(page(m, Page::Inches(b), out, at)),
+        Begun::Advanced => advanced_step(b, out, at),
+        Begun::CommandMode => mode_step(b, out, at),
         Begun::FirstOf(c) => waits(Waiting::Arguments(Begun::SecondOf(c, b)), at),
         Begun::SecondOf(c, a) => two_step(m, c, a, b, out, at),
     }

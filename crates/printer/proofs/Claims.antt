@@ -5,11 +5,9 @@ use mathlib.Core.Bool.{Bool}
 use mathlib.Core.List.{List, [], _∷_, _++_, map, append-assoc, map-append}
 use native.Mathlib.Omega.{arith}
 use lib.Dec.{leb, eqb}
-use lib.ListN.{getD}
 use Rattle.printer.specs.Tools.{Each, Bytes}
 use Rattle.printer.specs.Widths.{imageStep}
 use Rattle.printer.specs.Settings.{acrossOf, downOf}
-use Rattle.printer.specs.Codes.{Received, by, speltAs, showsAs, received}
 use Rattle.printer.specs.Framing.{frame, imageWait}
 use Rattle.printer.specs.Performing.{Event, done, passed, inside, automatic, Writing, silent, letter, imageByte, feed, clear, recordsBy, Effect, controlAt, effectAt, recordsAt, recordsOf, recordsAll, perform, performAll}
 use Rattle.printer.specs.Deciding.{attempt, decide}
@@ -26,6 +24,7 @@ use Rattle.printer.proofs.Spelling.{EventOf, of-decide}
 use Rattle.printer.proofs.Legal.{forceOf, InStep, Overflowing, Done, Legal, LegalAll, attempted}
 use Rattle.printer.proofs.Keeping.{Writable, Bounded, keep-control, keep-done, keep}
 use Rattle.printer.proofs.KeepingSteps.{bounded, sound, step-ours}
+use Rattle.printer.proofs.NoBytes.{no-byte}
 use Rattle.printer.proofs.Following.{from, At, Follows, follow-control, follow}
 
 -- Claims, and two of them joined
@@ -125,10 +124,6 @@ record ReckonedAfter (p : Printer) (n : ℕ) (k j : Axis) (e : Event) : Type 0 w
   same : reckon (from p n k j) e ≡ from (perform p e) (stepAfter n p e) across down
   tracks : Tracks (perform p e) across down
 
--- the byte that a NO bears is the first that its command was received by
-first-shown : (r : Received) → showsAs r ≡ getD (speltAs r) 0 0
-first-shown (by code arguments) = refl
-
 module _ (p : Printer) (n : ℕ) (k j : Axis) (f : Tracks p k j) where
   control-follows : (c : Control) (m : ℕ) → Legal p (inside c m) → Follows (controlChange (forceOf (p .settings) (p .stops) n) c m) (controlAt p c m) k j
   control-follows c m h = follow-control (p .settings) (p .stops) (p .place) n c m k j h (f .across) (f .down)
@@ -174,7 +169,7 @@ module _ (p : Printer) (n : ℕ) (k j : Axis) (f : Tracks p k j) where
       record { same = v .same; between = v .between; reckoned = record { across = v .reckoned .0; down = v .reckoned .1; room = tt; classified = h .classified } }
   event-claim (passed c reason) h i =
       record {
-        same = rw (first-shown (received c));
+        same = rw (no-byte c);
         between = tt;
         reckoned =
             record {

@@ -7,11 +7,11 @@ use mathlib.Core.Logic.{_⊎_, inl, inr, ⊎-elim}
 use native.Mathlib.Omega.{arith}
 use lib.Dec.{leb, ltb, eqb}
 use lib.ListN.{length, getD}
-use borrow.Author.Tests.{eqb-true, leb-false, leb-true, le-leb, ltb-true, ne-eqb}
+use borrow.Author.Tests.{eqb-true, eqb-false, leb-false, leb-true, le-leb, ltb-true, ne-eqb}
 use Rattle.printer.specs.Tools.{both, within}
 use Rattle.printer.specs.Escapes.{modes, looks, parameters, choices}
 use Rattle.printer.specs.Codes.{controlCode, oneCode, twoCode, begunBy, firstCode, secondCode, firsts, seconds, plainEscapes, argumentEscapes, otherEscapes, spelt}
-use Rattle.printer.specs.Framing.{isLetter, readAs, controls, escapes, firstOf, secondOf, oneCommand, twoCommand, afterTwo, imageWait, firstFrame, secondFrame, continued, frame}
+use Rattle.printer.specs.Framing.{isLetter, readAs, controls, escapes, firstOf, secondOf, oneCommand, twoCommand, afterTwo, imageWait, firstFrame, secondFrame, advancedFrame, modeFrame, continued, frame}
 use Rattle.printer.specs.Deciding.{reasonOf}
 use Rattle.printer.specs.Spelling.{pending, among, listedControls, listedEscapes, StandsFor, Unlisted, Begins, Classified}
 use Rattle.printer.specs.Types.{Begun, Command, Control, Density, First, Frame, ListPart, Look, One, Page, Refused, Second, Silent, Tabs, Two, Waiting}
@@ -22,6 +22,8 @@ use Rattle.printer.proofs.Listed.{found}
 pub known : (r : Refused) → reasonOf r ≤ 5
 known (Refused.Byte b) = omega arith
 known (Refused.Escape b) = omega arith
+known (Refused.Advanced b) = omega arith
+known (Refused.CommandMode n) = omega arith
 
 -- Two constructors that are equal
 
@@ -220,9 +222,9 @@ control-framed : (upper : Bool) (c : Control) (b : ℕ) → StandsFor upper b (c
     → Framed upper (b ∷ []) (Frame.Whole (Command.Control c b) Waiting.Nothing)
 control-framed upper c b s = single refl (control-classified upper c b s) (λ k x z. cc) (λ d m z. cc) rests
 
-refused-framed : (upper : Bool) (r : Refused) (b : ℕ) → spelt (Command.Refused r) ≡ b ∷ [] → Unlisted upper r
-    → Framed upper (b ∷ []) (Frame.Whole (Command.Refused r) Waiting.Nothing)
-refused-framed upper r b e u = single e (refused-classified upper r u) (λ k x z. cc) (λ d m z. cc) rests
+refused-framed : (upper : Bool) (r : Refused) → Unlisted upper r
+    → Framed upper (spelt (Command.Refused r)) (Frame.Whole (Command.Refused r) Waiting.Nothing)
+refused-framed upper r u = single refl (refused-classified upper r u) (λ k x z. cc) (λ d m z. cc) rests
 
 first-framed : (upper : Bool) (f : First) (n b : ℕ) → isControl f ≡ true → n ≡ firstCode f → StandsFor upper b n
     → Framed upper (b ∷ []) (firstFrame f b)
@@ -236,7 +238,7 @@ unfolding controls firsts listedControls
 begin-framed upper b e =
     found (λ (f : First). Framed upper (b ∷ []) (firstFrame f b)) isControl firstCode firsts First.Unlisted (readAs upper b) refl
     (λ f q k. first-framed upper f (readAs upper b) b q k (read-as upper b))
-    (λ k. refused-framed upper (Refused.Byte b) b refl (unlisted-byte upper b e k))
+    (λ k. refused-framed upper (Refused.Byte b) (unlisted-byte upper b e k))
 
 letter-framed : (upper : Bool) (b : ℕ) → isLetter upper b ≡ true → Framed upper (b ∷ []) (Frame.Whole (Command.Letter b) Waiting.Nothing)
 letter-framed upper b e = single refl (letter-classified upper b (a-letter upper b e)) (λ k x z. cc) (λ d m z. cc) rests
@@ -278,7 +280,7 @@ second-framed : (upper : Bool) (b : ℕ) → Framed upper (b ∷ []) (secondFram
 unfolding listedEscapes escapes seconds plainEscapes argumentEscapes otherEscapes modes looks parameters choices
 second-framed upper b =
     found (λ (s : Second). Framed upper (b ∷ []) (secondFrame s b)) isListed secondCode seconds Second.Unlisted b refl
-    (λ s q e. listed-framed upper s b q e) (λ k. refused-framed upper (Refused.Escape b) b refl k)
+    (λ s q e. listed-framed upper s b q e) (λ k. refused-framed upper (Refused.Escape b) k)
 
 -- Arguments
 
@@ -304,12 +306,32 @@ page-framed : (upper : Bool) (g : Page) → Framed upper (spelt (Command.Page g)
 page-framed upper g =
     alone upper _ (Command.Page g) refl (plain (λ n z. cc) (λ k n z. cc) (λ r z. cc) (λ k z. cc)) (λ k x z. cc) (λ d m z. cc)
 
+silent-framed : (upper : Bool) (k : Silent) (l : List ℕ) → spelt (Command.Silent k) ≡ l → Begins upper k
+    → Framed upper l (Frame.Whole (Command.Silent k) Waiting.Nothing)
+silent-framed upper k l e h = single e (silent-classified upper k h) (λ t x z. cc) (λ d m z. cc) rests
+
+advanced-framed : (upper : Bool) (b : ℕ) → Framed upper (begunBy Begun.Advanced ++ (b ∷ [])) (advancedFrame b)
+advanced-framed upper b =
+    pick-elim (Framed upper (begunBy Begun.Advanced ++ (b ∷ []))) (eqb b 0x61)
+    (λ e. begins (rw (eqb-true b 0x61 e)))
+    (λ e. pick-elim (Framed upper (begunBy Begun.Advanced ++ (b ∷ []))) (eqb b 0x53)
+    (λ f. silent-framed upper Silent.StatusRequest _ (rw (eqb-true b 0x53 f)) tt)
+    (λ f. refused-framed upper (Refused.Advanced b) (eqb-false b 0x61 e, eqb-false b 0x53 f)))
+
+mode-framed : (upper : Bool) (n : ℕ) → Framed upper (begunBy Begun.CommandMode ++ (n ∷ [])) (modeFrame n)
+mode-framed upper n =
+    pick-elim (Framed upper (begunBy Begun.CommandMode ++ (n ∷ []))) (eqb n 0)
+    (λ e. silent-framed upper Silent.KeepMode _ (rw (eqb-true n 0 e)) tt)
+    (λ e. refused-framed upper (Refused.CommandMode n) (eqb-false n 0 e))
+
 argument-framed : (upper : Bool) (w : Begun) (b : ℕ) → Framed upper (begunBy w ++ (b ∷ [])) (continued w b)
 argument-framed upper (Begun.One c) b = one-framed upper c b
 argument-framed upper Begun.PageLength b =
     pick-elim (Framed upper (begunBy Begun.PageLength ++ (b ∷ []))) (eqb b 0)
     (λ e. begins (rw (eqb-true b 0 e))) (λ _. page-framed upper (Page.Lines b))
 argument-framed upper Begun.PageInches b = page-framed upper (Page.Inches b)
+argument-framed upper Begun.Advanced b = advanced-framed upper b
+argument-framed upper Begun.CommandMode b = mode-framed upper b
 argument-framed upper (Begun.FirstOf c) b = begins refl
 argument-framed upper (Begun.SecondOf c a) b = two-framed upper c a b
 

@@ -14,7 +14,9 @@ pub mod Writing
 pub mod Few
 pub mod Cuts
 pub mod Answering
+pub mod Advanced
 pub mod Following
+pub mod NoBytes
 pub mod Claims
 pub mod CallLists
 pub mod ByHand

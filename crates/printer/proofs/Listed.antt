@@ -139,6 +139,7 @@ every-listed =
       one = one-listed;
       two = two-listed;
       page = refl;
+      advanced = refl;
       list = list-listed;
       reset = refl;
       noControl = no-control;

@@ -14,19 +14,21 @@ use Rattle.printer.specs.Decoding.{decoded, decodedAll, FitsBytes}
 use Rattle.printer.specs.Bounds.{accepted}
 use Rattle.printer.specs.Accepted.{Accepted, Typed}
 use Rattle.printer.specs.Steps.{stepRecords, stateAfter, recordsOver, eventsOver}
-use Rattle.printer.specs.Spelling.{pending, speltAll, ClassifiedOver, EveryListed}
+use Rattle.printer.specs.Spelling.{pending, speltAll, StandsFor, ClassifiedOver, EveryListed}
+use Rattle.printer.specs.Advanced.{AdvancedCommands}
 use Rattle.printer.specs.Calls.{startOf, readingOf, outputOf, StartCall, ReadCall, row, numberOf, ThatState, ByTable}
 use Rattle.printer.specs.Promises.{callBy, ReadingPromise}
 use Rattle.printer.specs.Cutting.{Readings, joinedInput, lastState, joinedOutput, bytesRead, ReadToEnd, Resumed, Leaves}
 use Rattle.printer.specs.Reckoning.{Motion, sets, Axis, movedAll, Moves, forthOf, backOf, Reckoning, Occurrence, reckonAll, acrossMotion, downMotion, motions}
 use Rattle.printer.specs.Demand3.{Call, started, Chain, Demand3}
 use Rattle.printer.specs.Cases.{CheckedByHand}
-use Rattle.printer.specs.Types.{Answer, Reading, Started, Record, Setup, StartSettings, Printer}
+use Rattle.printer.specs.Types.{Answer, Reading, Started, Record, Setup, StartSettings, Printer, Waiting}
 use Rattle.printer.proofs.Accepting.{fact-accepted, accepted-fact, power-on-accepted}
 use Rattle.printer.proofs.KeepingSteps.{steps-ours}
 use Rattle.printer.proofs.Few.{two-records}
 use Rattle.printer.proofs.Listed.{every-listed}
 use Rattle.printer.proofs.Spelling.{steps-spell, steps-classified}
+use Rattle.printer.proofs.Advanced.{advanced-commands}
 use Rattle.printer.proofs.Bytes.{decoded-encoded, decodedAll-encoded}
 use Rattle.printer.proofs.Writing.{steps-fit}
 use Rattle.printer.proofs.Cuts.{gave, calls-state, calls-output, read-to-end, resumed-reads, enough-reads}
@@ -90,6 +92,10 @@ classified p input = steps-classified p input
 -- and every control and escape is listed
 pub listed : EveryListed
 listed = every-listed
+
+-- ESC i, where nothing is waited for: "a" with 0 and "S" change nothing and write nothing, all else is one NO
+pub advanced : (p : Printer) (b : ℕ) → p .waiting ≡ Waiting.Nothing → StandsFor (p .settings .upperprints) b 0x1B → AdvancedCommands p b
+advanced p b w s = advanced-commands p b w s
 
 -- 4. Demand 2, cutting: over calls that kept their promises, each with the state that the one before returned or left
 

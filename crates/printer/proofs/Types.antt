@@ -42,6 +42,8 @@ begun : (w : Begun) {vs : List Val} → Is B.the-row w vs → Bytes (begunBy w)
 begun (Begun.One c) h = (one-byte c, tt)
 begun Begun.PageLength h = (omega arith, tt)
 begun Begun.PageInches h = (omega arith, (omega arith, tt))
+begun Begun.Advanced h = (omega arith, tt)
+begun Begun.CommandMode h = (omega arith, (omega arith, tt))
 begun (Begun.FirstOf c) h = (two-byte c, tt)
 begun (Begun.SecondOf c a) h = (two-byte c, (byte (h .1 .1 .1 .1 .1 .0), tt))
 

@@ -11,7 +11,7 @@ use Rattle.printer.specs.Units.{columnDots, rowDots}
 use Rattle.printer.specs.Widths.{doubleWidth}
 use Rattle.printer.specs.Settings.{acrossOf, downOf}
 use Rattle.printer.specs.Escapes.{countries}
-use Rattle.printer.specs.Codes.{Received, by, speltAs, showsAs, received, shows}
+use Rattle.printer.specs.Codes.{Received, by, byThird, speltAs, showsAs, received, shows}
 use Rattle.printer.specs.Records.{styleOf, letterRecord, imageRecord, feedRecord, clearRecord, passedRecord}
 use Rattle.printer.specs.Decoding.{FitsBytes}
 use Rattle.printer.specs.Accepted.{Ours}
@@ -107,6 +107,7 @@ down-fits s x f = omega arith
 -- the byte that NO bears is one of the command's
 shows-byte : (r : Received) → Bytes (speltAs r) → showsAs r ≤ 255
 shows-byte (by code arguments) h = h .0
+shows-byte (byThird code third) h = h .1 .0
 
 passed-fits : (b reason : ℕ) → b ≤ 255 → reason ≤ 5 → FitsBytes (passedRecord b reason)
 passed-fits b reason h k = omega arith

@@ -36,11 +36,23 @@ twoCode (Two.Image Density.Quadruple) = 0x5A
 abbrev pageCode : ℕ
 pageCode = 0x43
 
+-- ESC i, and its third bytes "a" and "S"
+abbrev advancedCode : ℕ
+advancedCode = 0x69
+
+abbrev pub modeCode : ℕ
+modeCode = 0x61
+
+abbrev pub statusCode : ℕ
+statusCode = 0x53
+
 -- an escape begun: its second byte, and its arguments so far
 abbrev pub begunBy : Begun → List ℕ
 begunBy (Begun.One c) = oneCode c ∷ []
 begunBy Begun.PageLength = pageCode ∷ []
 begunBy Begun.PageInches = pageCode ∷ 0 ∷ []
+begunBy Begun.Advanced = advancedCode ∷ []
+begunBy Begun.CommandMode = advancedCode ∷ modeCode ∷ []
 begunBy (Begun.FirstOf c) = twoCode c ∷ []
 begunBy (Begun.SecondOf c a) = twoCode c ∷ a ∷ []
 
@@ -86,23 +98,30 @@ otherEscapes =
     ++ map (λ c. Second.Begins (Begun.FirstOf c))
     (Two.Move Move.Absolute ∷ Two.Move Move.Relative ∷ Two.Image Density.Single ∷
     Two.Image Density.Double ∷ Two.Image Density.DoubleSpeed ∷ Two.Image Density.Quadruple ∷ [])
-    ++ (Second.Begins Begun.PageLength ∷ Second.List Tabs.Horizontal ∷ Second.List Tabs.Vertical ∷ Second.Reset ∷ [])
+    ++ (Second.Begins Begun.PageLength ∷ Second.Begins Begun.Advanced ∷ Second.List Tabs.Horizontal ∷
+    Second.List Tabs.Vertical ∷ Second.Reset ∷ [])
 
 unfoldable pub seconds : List Second
 seconds = plainEscapes ++ (argumentEscapes ++ otherEscapes)
 
 -- Commands as received
 
--- a command's bytes: its code and its arguments. An escape's first byte is a command by itself, so its code is its second byte.
+-- a command's bytes: its code and its arguments. An escape's first byte is a command by itself, so its code is its second byte. Or its code
+-- and the third byte, which says which it is.
 pub data Received : Type 0 where
   by : (code : ℕ) → (arguments : List ℕ) → Received
+  byThird : (code third : ℕ) → Received
 
 abbrev pub refusedBy : Refused → Received
 refusedBy (Refused.Byte b) = by b []
 refusedBy (Refused.Escape b) = by b []
+refusedBy (Refused.Advanced b) = byThird advancedCode b
+refusedBy (Refused.CommandMode n) = by advancedCode (modeCode ∷ n ∷ [])
 
 abbrev pub silentBy : Silent → Received
 silentBy (Silent.Escape b) = by b []
+silentBy Silent.KeepMode = by advancedCode (modeCode ∷ 0 ∷ [])
+silentBy Silent.StatusRequest = byThird advancedCode statusCode
 
 abbrev pub lookBy : Look → Received
 lookBy (Look.Switch w) = by (secondCode (Second.Switch w)) []
@@ -137,10 +156,12 @@ received (Command.List t part) = listBy t part
 
 abbrev pub speltAs : Received → List ℕ
 speltAs (by code arguments) = code ∷ arguments
+speltAs (byThird code third) = code ∷ third ∷ []
 
--- a NO's byte: the letter, image or list byte passed over, else the control byte or the escape's second byte
+-- a NO's byte: the letter, image or list byte passed over, else the control byte or the escape's second byte; a third byte that is not listed
 abbrev pub showsAs : Received → ℕ
 showsAs (by code arguments) = code
+showsAs (byThird code third) = third
 
 abbrev pub spelt : Command → List ℕ
 spelt c = speltAs (received c)

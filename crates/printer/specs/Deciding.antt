@@ -207,6 +207,8 @@ controlEvents p Control.Dc4 b = done (Command.Control Control.Dc4 b) 0 ∷ []
 abbrev pub reasonOf : Refused → ℕ
 reasonOf (Refused.Byte b) = unlisted
 reasonOf (Refused.Escape b) = unlisted
+reasonOf (Refused.Advanced b) = unlisted
+reasonOf (Refused.CommandMode n) = notAllowed
 
 -- what the rules do at a command
 abbrev pub decide : Printer → Command → List Event

@@ -4,7 +4,7 @@ use mathlib.Core.Bool.{Bool, true, false}
 use mathlib.Core.List.{List}
 use lib.Dec.{leb, eqb}
 use Rattle.printer.specs.Tools.{pick, both, either, within, lookup, coded}
-use Rattle.printer.specs.Codes.{firstCode, secondCode, firsts, seconds}
+use Rattle.printer.specs.Codes.{firstCode, secondCode, firsts, seconds, modeCode, statusCode}
 use Rattle.printer.specs.Types.{Begun, Command, Density, First, Frame, ListPart, Look, One, Page, Refused, Second, Silent, Tabs, Two, Waiting}
 
 -- a letter: 20h to 7Eh, A0h to FFh, and 80h to 9Fh after ESC 6
@@ -61,12 +61,30 @@ secondFrame (Second.Begins w) b = Frame.Waits (Waiting.Arguments w)
 secondFrame (Second.List t) b = Frame.Whole (Command.List t ListPart.Open) (Waiting.StopList t 0)
 secondFrame Second.Unlisted b = Frame.Whole (Command.Refused (Refused.Escape b)) Waiting.Nothing
 
+-- document 02, E1: the third byte of ESC i, which is used up: "a", after which an argument comes; "S"; or one that is not listed
+abbrev pub advancedFrame : ℕ → Frame
+advancedFrame b =
+    pick (eqb b modeCode)
+    (Frame.Waits (Waiting.Arguments Begun.CommandMode))
+    (pick (eqb b statusCode)
+    (Frame.Whole (Command.Silent Silent.StatusRequest) Waiting.Nothing)
+    (Frame.Whole (Command.Refused (Refused.Advanced b)) Waiting.Nothing))
+
+-- the argument of ESC i a: 0 keeps ESC/P mode, another is not allowed
+abbrev pub modeFrame : ℕ → Frame
+modeFrame n =
+    pick (eqb n 0)
+    (Frame.Whole (Command.Silent Silent.KeepMode) Waiting.Nothing)
+    (Frame.Whole (Command.Refused (Refused.CommandMode n)) Waiting.Nothing)
+
 -- an argument; that of ESC C is 0 where inches follow
 abbrev pub continued : Begun → ℕ → Frame
 continued (Begun.One c) b = Frame.Whole (oneCommand c b) Waiting.Nothing
 continued Begun.PageLength b =
     pick (eqb b 0) (Frame.Waits (Waiting.Arguments Begun.PageInches)) (Frame.Whole (Command.Page (Page.Lines b)) Waiting.Nothing)
 continued Begun.PageInches b = Frame.Whole (Command.Page (Page.Inches b)) Waiting.Nothing
+continued Begun.Advanced b = advancedFrame b
+continued Begun.CommandMode b = modeFrame b
 continued (Begun.FirstOf c) b = Frame.Waits (Waiting.Arguments (Begun.SecondOf c b))
 continued (Begun.SecondOf c a) b = Frame.Whole (twoCommand c a b) (afterTwo c (a + 256 * b))
 

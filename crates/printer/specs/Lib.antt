@@ -30,6 +30,8 @@ pub mod Decoding
 pub mod Cases
 pub mod Cutting
 pub mod Spelling
+-- ESC i
+pub mod Advanced
 -- demand 3, the last two paragraphs of 'Commands': the reckoning's settings and places, the records that it says are written, the claim
 pub mod InForce
 pub mod Reckoning

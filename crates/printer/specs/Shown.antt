@@ -1,7 +1,8 @@
 -- What demand 3 says is written: the records of the same events, by the reckoning alone. No printer is read, and none of the rules' records.
 use Prim.Native.Nat.{ℕ}
 use mathlib.Core.List.{List, [], _∷_, _++_}
-use lib.ListN.{getD}
+use lib.Dec.{eqb}
+use Rattle.printer.specs.Tools.{pick}
 use Rattle.printer.specs.Units.{rounded}
 use Rattle.printer.specs.Codes.{spelt}
 use Rattle.printer.specs.Performing.{Event, done, passed, inside, automatic, Writing, silent, letter, imageByte, feed, clear}
@@ -99,9 +100,16 @@ shownAs r down clear = only Mark.Cl 0 0 0 ∷ []
 abbrev pub shownBy : Reckoning → Change → List Shown
 shownBy r t = shownAs r (moved (r .down) (t .down)) (t .writing)
 
--- NO's byte: the first of the bytes that the command was received by (an escape's first is a command by itself)
+-- NO's byte: the first of the bytes that the command was received by (an escape's first is a command by itself); of ESC i and a third byte
+-- alone, that
+abbrev pub noByteOf : List ℕ → ℕ
+noByteOf [] = 0
+noByteOf (b ∷ []) = b
+noByteOf (b ∷ third ∷ []) = pick (eqb b 0x69) third b
+noByteOf (b ∷ a ∷ n ∷ l) = b
+
 abbrev pub noByte : Command → ℕ
-noByte c = getD (spelt c) 0 0
+noByte c = noByteOf (spelt c)
 
 abbrev pub writes : Reckoning → Event → List Shown
 writes r (done c n) = shownBy r (changeOf (r .force) c n)

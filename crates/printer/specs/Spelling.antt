@@ -52,17 +52,21 @@ unfoldable pub listedEscapes : List ℕ
 listedEscapes =
     0x0E ∷ 0x0F ∷ 0x30 ∷ 0x32 ∷ 0x4F ∷ 0x50 ∷ 0x4D ∷ 0x67 ∷ 0x36 ∷ 0x37 ∷ 0x45 ∷ 0x46 ∷ 0x47 ∷ 0x48 ∷ 0x34 ∷ 0x35 ∷
     0x54 ∷ 0x33 ∷ 0x41 ∷ 0x2B ∷ 0x20 ∷ 0x70 ∷ 0x78 ∷ 0x57 ∷ 0x21 ∷ 0x53 ∷ 0x2D ∷ 0x77 ∷ 0x71 ∷ 0x74 ∷ 0x6B ∷ 0x52 ∷
-    0x25 ∷ 0x4E ∷ 0x4A ∷ 0x6C ∷ 0x51 ∷ 0x24 ∷ 0x5C ∷ 0x4B ∷ 0x4C ∷ 0x59 ∷ 0x5A ∷ 0x43 ∷ 0x44 ∷ 0x42 ∷ 0x40 ∷ []
+    0x25 ∷ 0x4E ∷ 0x4A ∷ 0x6C ∷ 0x51 ∷ 0x24 ∷ 0x5C ∷ 0x4B ∷ 0x4C ∷ 0x59 ∷ 0x5A ∷ 0x43 ∷ 0x69 ∷ 0x44 ∷ 0x42 ∷ 0x40 ∷ []
 
--- what is passed over in every state is not listed, whichever code it may stand for
+-- what is passed over in every state is not listed, whichever code it may stand for; or its argument is not 0
 abbrev pub Unlisted : (upper : Bool) → Refused → Type 0
 Unlisted upper (Refused.Byte b) =
     ((b ≤ 0x1F) ⊎ ((0x7F ≤ b) × (b ≤ 0x9F)))
     × (0x80 ≤ b → upper ≡ false) × ((n : ℕ) → StandsFor upper b n → among listedControls n ≡ false)
 Unlisted upper (Refused.Escape b) = among listedEscapes b ≡ false
+Unlisted upper (Refused.Advanced b) = (b ≡ 0x61 → ⊥) × (b ≡ 0x53 → ⊥)
+Unlisted upper (Refused.CommandMode n) = n ≡ 0 → ⊥
 
 abbrev pub Begins : (upper : Bool) → Silent → Type 0
 Begins upper (Silent.Escape b) = StandsFor upper b 0x1B
+Begins upper Silent.KeepMode = Unit
+Begins upper Silent.StatusRequest = Unit
 
 -- a letter, a control, what is passed over, the beginning of an escape; of other commands nothing is said
 pub record Classified (upper : Bool) (c : Command) : Type 0 where
@@ -93,6 +97,7 @@ pub record EveryListed : Type 0 where
   pub one : (c : One) → secondOf (oneCode c) ≡ Second.Begins (Begun.One c)
   pub two : (c : Two) → secondOf (twoCode c) ≡ Second.Begins (Begun.FirstOf c)
   pub page : secondOf (secondCode (Second.Begins Begun.PageLength)) ≡ Second.Begins Begun.PageLength
+  pub advanced : secondOf (secondCode (Second.Begins Begun.Advanced)) ≡ Second.Begins Begun.Advanced
   pub list : (t : Tabs) → secondOf (secondCode (Second.List t)) ≡ Second.List t
   pub reset : secondOf (secondCode Second.Reset) ≡ Second.Reset
   -- and nothing else is

@@ -107,12 +107,20 @@ pub enum Refused {
     Byte(u8),
     // An escape's second byte that is not listed.
     Escape(u8),
+    // A third byte of ESC i that is not listed.
+    Advanced(u8),
+    // ESC i a n, with n other than 0.
+    CommandMode(u8),
 }
 
 // What is done and changes nothing.
 pub enum Silent {
     // The byte that begins an escape.
     Escape(u8),
+    // ESC i a 0: ESC/P mode is kept.
+    KeepMode,
+    // ESC i S: the link answers it.
+    StatusRequest,
 }
 
 // A whole command, with its bytes as received.
@@ -170,6 +178,10 @@ pub enum Begun {
     PageLength,
     // The argument of ESC C 0.
     PageInches,
+    // The third byte of ESC i, which says which of the advanced commands it is.
+    Advanced,
+    // The argument of ESC i a.
+    CommandMode,
     // The first of two arguments.
     FirstOf(Two),
     // The second of two, after the first.

@@ -5,24 +5,28 @@ use mathlib.Core.Bool.{Bool, false}
 use mathlib.Core.List.{List, [], _∷_, _++_, map}
 use native.Mathlib.Omega.{arith}
 use lib.Dec.{eqb}
+use denote.Enum.Declared.{tagOf}
+use types.Run.{OneOf, miss}
 use borrow.Author.Tests.{eqb-true}
 use Rattle.printer.specs.Tools.{Bytes, Each, lookup, coded}
 use Rattle.printer.specs.Accepted.{waitingTyped}
-use Rattle.printer.specs.Codes.{begunBy, secondCode, seconds, plainEscapes, argumentEscapes, otherEscapes}
+use Rattle.printer.specs.Codes.{twoCode, begunBy, secondCode, seconds, plainEscapes, argumentEscapes, otherEscapes}
 use Rattle.printer.specs.Escapes.{modes, looks, parameters, choices}
-use Rattle.printer.specs.Framing.{escapes, secondFrame, frame}
+use Rattle.printer.specs.Framing.{escapes, secondFrame, continued, frame}
 use Rattle.printer.specs.Steps.{nextIn}
 use Rattle.printer.specs.declared.commands.Begun.{Begun}
+use Rattle.printer.specs.declared.commands.Density.{Density}
 use Rattle.printer.specs.declared.commands.Frame.{Frame}
 use Rattle.printer.specs.declared.commands.Second.{Second}
 use Rattle.printer.specs.declared.commands.Tabs.{Tabs}
 use Rattle.printer.specs.declared.commands.Two.{Two}
 use Rattle.printer.specs.declared.commands.Waiting.{Waiting}
-use Rattle.printer.proofs.Choices.{pick-elim}
-use Rattle.printer.proofs.Frames.{Framed, begins as framed-begins, single, opensList, opensImage, rests, afterEscape, framed-second}
+use Rattle.printer.proofs.commands.Begun.{the-type}
+use Rattle.printer.proofs.Choices.{pick-elim, bytes-append}
+use Rattle.printer.proofs.Frames.{Framed, begins as framed-begins, single, opensList, opensImage, rests, afterEscape, framed-second, framed-argument}
 use Rattle.printer.proofs.Listed.{every-listed, two-byte}
 use Rattle.registers.specs.declared.pending.Pending.{Pending}
-use Rattle.registers.specs.State.{pending, pendingBytes, pendingOf, begins, argued, resumed, imaged, kinds, waitingOf, pendingIn, imageTyped}
+use Rattle.registers.specs.State.{pending, pendingBytes, pendingOf, begins, waitsIn, argued, resumed, images, imaged, kinds, waitingOf, pendingIn, imageTyped}
 use Rattle.registers.proofs.Laws.{byte-back}
 
 -- what a second byte begins is found in the rest of the table: the escapes before it begin nothing
@@ -48,6 +52,19 @@ pub begins-found : (b : ℕ) → begins b ≡ next (found (argumentEscapes ++ ot
 unfolding lookup coded frame escapes seconds plainEscapes argumentEscapes otherEscapes modes looks parameters choices
 begins-found b = left-out plainEscapes (argumentEscapes ++ otherEscapes) b refl
 
+-- nothing follows the argument of these places, by their numbers among all
+abbrev lasts : List ℕ
+lasts = 0 ∷ 2 ∷ 4 ∷ 6 ∷ []
+
+pub whole : (w : Begun) (a : ℕ) → OneOf lasts (tagOf the-type w) → Waiting.Nothing ≡ argued w a
+whole (Begun.One c) a k = refl
+whole Begun.PageLength a k = absurd (miss lasts _ tt k)
+whole Begun.PageInches a k = refl
+whole Begun.Advanced a k = absurd (miss lasts _ tt k)
+whole Begun.CommandMode a k = pick-elim (λ (f : Frame). Waiting.Nothing ≡ waitsIn f) (eqb a 0) (λ _. refl) (λ _. refl)
+whole (Begun.FirstOf c) a k = absurd (miss lasts _ tt k)
+whole (Begun.SecondOf c b) a k = refl
+
 -- reading its numbers gives it back
 
 begun-back : (w : Begun) → waitingOf (pendingBytes (begunBy w)) ≡ Waiting.Arguments w
@@ -55,8 +72,17 @@ unfolding lookup kinds frame
 begun-back (Begun.One c) = rw (every-listed .one c)
 begun-back Begun.PageLength = rw (every-listed .page)
 begun-back Begun.PageInches = rw (every-listed .page)
+begun-back Begun.Advanced = rw (every-listed .advanced)
+begun-back Begun.CommandMode = rw (every-listed .advanced)
 begun-back (Begun.FirstOf c) = rw (every-listed .two c)
 begun-back (Begun.SecondOf c a) = rw (every-listed .two c)
+
+image-back : (d : Density) (n : ℕ) → imaged (twoCode (Two.Image d)) n ≡ Waiting.ImageData d n
+unfolding lookup images
+image-back Density.Single n = refl
+image-back Density.Double n = refl
+image-back Density.DoubleSpeed n = refl
+image-back Density.Quadruple n = refl
 
 pub waiting-back : (w : Waiting) → waitingOf (pendingOf w) ≡ w
 unfolding lookup kinds frame
@@ -64,24 +90,22 @@ waiting-back Waiting.Nothing = refl
 waiting-back Waiting.SecondByte = refl
 waiting-back (Waiting.Arguments w) = begun-back w
 waiting-back (Waiting.StopList t b) = rw (every-listed .list t)
-waiting-back (Waiting.ImageData d n) = rw (every-listed .two (Two.Image d))
+waiting-back (Waiting.ImageData d n) = image-back d n
 
 -- its numbers are such as their types hold
 
 abbrev narrow : Pending → Pending
 narrow v = pending (v .kind) (v .command % 256) (v .argument % 256) (v .columns % 65536)
 
-begun-narrow : (w : Begun) → Bytes (begunBy w) → narrow (pendingBytes (begunBy w)) ≡ pendingBytes (begunBy w)
-begun-narrow (Begun.One c) h = rw (byte-back (h .0))
-begun-narrow Begun.PageLength h = refl
-begun-narrow Begun.PageInches h = refl
-begun-narrow (Begun.FirstOf c) h = rw (byte-back (h .0))
-begun-narrow (Begun.SecondOf c a) h = rw (byte-back (h .0), byte-back (h .1 .0))
+bytes-narrow : (l : List ℕ) → Bytes l → narrow (pendingBytes l) ≡ pendingBytes l
+bytes-narrow [] h = refl
+bytes-narrow (b ∷ []) h = rw (byte-back (h .0))
+bytes-narrow (b ∷ a ∷ l) h = rw (byte-back (h .0), byte-back (h .1 .0))
 
 pub pending-narrow : (w : Waiting) → waitingTyped w → imageTyped w → narrow (pendingOf w) ≡ pendingOf w
 pending-narrow Waiting.Nothing h k = refl
 pending-narrow Waiting.SecondByte h k = refl
-pending-narrow (Waiting.Arguments w) h k = begun-narrow w h
+pending-narrow (Waiting.Arguments w) h k = bytes-narrow (begunBy w) h
 pending-narrow (Waiting.StopList Tabs.Horizontal b) h k = rw (byte-back h)
 pending-narrow (Waiting.StopList Tabs.Vertical b) h k = rw (byte-back h)
 pending-narrow (Waiting.ImageData d n) h k =
@@ -101,12 +125,14 @@ typed-framed l (Frame.Whole c w) h (opensList e) = omega arith
 typed-framed l (Frame.Whole c w) h (opensImage {d} {a} {b} e) =
     pick-elim waitingTyped (eqb (a + 256 * b) 0) (λ _. tt) (λ _. tt)
 
+waits-typed : (f : Frame) → waitingTyped (nextIn f) → waitingTyped (waitsIn f)
+waits-typed (Frame.Waits w) t = t
+waits-typed (Frame.Whole c w) t = tt
+
 typed-argued : (w : Begun) (a : ℕ) → a ≤ 255 → Bytes (begunBy w) → waitingTyped (argued w a)
-typed-argued (Begun.One c) a h t = tt
-typed-argued Begun.PageLength a h t = (omega arith, (omega arith, tt))
-typed-argued Begun.PageInches a h t = tt
-typed-argued (Begun.FirstOf c) a h t = (t .0, (h, tt))
-typed-argued (Begun.SecondOf c b) a h t = tt
+unfolding frame
+typed-argued w a h t =
+    waits-typed (continued w a) (typed-framed _ _ (bytes-append (begunBy w) (a ∷ []) t (h, tt)) (framed-argument false w a))
 
 typed-resumed : (w : Waiting) (b : ℕ) → b ≤ 255 → waitingTyped w → waitingTyped (resumed w b)
 typed-resumed Waiting.Nothing b h t = tt
@@ -115,24 +141,16 @@ typed-resumed (Waiting.Arguments w) b h t = typed-argued w b h t
 typed-resumed (Waiting.StopList k before) b h t = h
 typed-resumed (Waiting.ImageData d n) b h t = tt
 
-typed-imaged : (w : Waiting) (n : ℕ) → waitingTyped (imaged w n)
-typed-imaged Waiting.Nothing n = tt
-typed-imaged Waiting.SecondByte n = tt
-typed-imaged (Waiting.Arguments (Begun.One c)) n = tt
-typed-imaged (Waiting.Arguments Begun.PageLength) n = tt
-typed-imaged (Waiting.Arguments Begun.PageInches) n = tt
-typed-imaged (Waiting.Arguments (Begun.FirstOf (Two.Move m))) n = tt
-typed-imaged (Waiting.Arguments (Begun.FirstOf (Two.Image d))) n = tt
-typed-imaged (Waiting.Arguments (Begun.SecondOf c a)) n = tt
-typed-imaged (Waiting.StopList k b) n = tt
-typed-imaged (Waiting.ImageData d m) n = tt
-
 -- what a table tells has what each of its entries has
 told : (l : List (ℕ × Waiting)) (d : Waiting) (b : ℕ) → waitingTyped d → Each (λ (e : ℕ × Waiting). waitingTyped (e .1)) l
     → waitingTyped (lookup l d b)
 unfolding lookup
 told [] d b h k = h
 told (e ∷ l) d b h k = pick-elim waitingTyped (eqb b (e .0)) (λ _. k .0) (λ _. told l d b h (k .1))
+
+typed-imaged : (code n : ℕ) → waitingTyped (imaged code n)
+unfolding images
+typed-imaged code n = told (images n) Waiting.Nothing code tt (tt, (tt, (tt, (tt, tt))))
 
 pub waiting-typed : (m : List ℕ) → waitingTyped (waitingOf (pendingIn m))
 unfolding kinds frame
@@ -141,4 +159,4 @@ waiting-typed m =
     let begun = begins (v .command) in
     let t : waitingTyped begun = typed-framed _ _ (omega arith, tt) (framed-second false (v .command)) in
     let after : waitingTyped (resumed begun (v .argument)) = typed-resumed begun (v .argument) (omega arith) t in
-    told (kinds begun v) Waiting.Nothing (v .kind) tt (tt, (tt, (t, (after, (after, (typed-imaged begun (v .columns), tt))))))
+    told (kinds begun v) Waiting.Nothing (v .kind) tt (tt, (tt, (t, (after, (after, (typed-imaged (v .command) (v .columns), tt))))))

@@ -8,10 +8,12 @@ use lib.ListN.{getD}
 use Rattle.printer.specs.Accepted.{Typed}
 use Rattle.printer.specs.Bounds.{accepted}
 use Rattle.printer.specs.Codes.{twoCode, secondCode, begunBy}
-use Rattle.printer.specs.Framing.{frame}
+use Rattle.printer.specs.Framing.{continued, frame}
 use Rattle.printer.specs.Steps.{nextIn}
 use Rattle.printer.specs.Tools.{lookup}
 use Rattle.printer.specs.declared.commands.Begun.{Begun}
+use Rattle.printer.specs.declared.commands.Density.{Density}
+use Rattle.printer.specs.declared.commands.Frame.{Frame}
 use Rattle.printer.specs.declared.commands.Second.{Second}
 use Rattle.printer.specs.declared.commands.Two.{Two}
 use Rattle.printer.specs.declared.commands.Waiting.{Waiting}
@@ -48,13 +50,14 @@ registersOf p = words (pendingOf (p .waiting)) p
 abbrev pub begins : ℕ → Waiting
 begins code = nextIn (frame false Waiting.SecondByte code)
 
--- an escape after its first argument, if another follows; after ESC C that is so for 0 alone
+-- what is waited for where no command is whole yet
+abbrev pub waitsIn : Frame → Waiting
+waitsIn (Frame.Waits w) = w
+waitsIn (Frame.Whole c w) = Waiting.Nothing
+
+-- an escape after its first argument, if another follows
 abbrev pub argued : Begun → ℕ → Waiting
-argued (Begun.One c) a = Waiting.Nothing
-argued Begun.PageLength a = Waiting.Arguments Begun.PageInches
-argued Begun.PageInches a = Waiting.Nothing
-argued (Begun.FirstOf c) a = Waiting.Arguments (Begun.SecondOf c a)
-argued (Begun.SecondOf c b) a = Waiting.Nothing
+argued w a = waitsIn (continued w a)
 
 -- what was begun, after a byte of it: an argument, or a byte of a stop list
 abbrev pub resumed : Waiting → ℕ → Waiting
@@ -64,20 +67,18 @@ resumed (Waiting.Arguments w) b = argued w b
 resumed (Waiting.StopList t before) b = Waiting.StopList t b
 resumed (Waiting.ImageData d n) b = Waiting.Nothing
 
--- an image begun, with so many columns of data to come
-abbrev pub imaged : Waiting → ℕ → Waiting
-imaged Waiting.Nothing n = Waiting.Nothing
-imaged Waiting.SecondByte n = Waiting.Nothing
-imaged (Waiting.Arguments (Begun.One c)) n = Waiting.Nothing
-imaged (Waiting.Arguments Begun.PageLength) n = Waiting.Nothing
-imaged (Waiting.Arguments Begun.PageInches) n = Waiting.Nothing
-imaged (Waiting.Arguments (Begun.FirstOf (Two.Move m))) n = Waiting.Nothing
-imaged (Waiting.Arguments (Begun.FirstOf (Two.Image d))) n = Waiting.ImageData d n
-imaged (Waiting.Arguments (Begun.SecondOf c a)) n = Waiting.Nothing
-imaged (Waiting.StopList t b) n = Waiting.Nothing
-imaged (Waiting.ImageData d m) n = Waiting.Nothing
+-- image data with so many columns to come, by the codes of its commands
+abbrev imageRow : Density → ℕ → ℕ × Waiting
+imageRow d n = (twoCode (Two.Image d), Waiting.ImageData d n)
 
--- what each kind is, by what the escape's second byte begins; numbers that no kind has so are refused, since what they are
+unfoldable pub images : ℕ → List (ℕ × Waiting)
+images n =
+    imageRow Density.Single n ∷ imageRow Density.Double n ∷ imageRow Density.DoubleSpeed n ∷ imageRow Density.Quadruple n ∷ []
+
+abbrev pub imaged : ℕ → ℕ → Waiting
+imaged code n = lookup (images n) Waiting.Nothing code
+
+-- what each kind is, by what the escape's second byte begins or is; numbers that no kind has so are refused, since what they are
 -- read as has others
 unfoldable pub kinds : Waiting → Pending → List (ℕ × Waiting)
 kinds begun v =
@@ -86,7 +87,7 @@ kinds begun v =
     (2, begun) ∷
     (3, resumed begun (v .argument)) ∷
     (4, resumed begun (v .argument)) ∷
-    (5, imaged begun (v .columns)) ∷
+    (5, imaged (v .command) (v .columns)) ∷
     []
 
 abbrev pub waitingOf : Pending → Waiting

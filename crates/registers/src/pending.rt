@@ -7,17 +7,17 @@ use crate::KIND;
 use framing::codes;
 use framing::codes::BegunBytes;
 use printer::commands::Begun;
+use printer::commands::Density;
 use printer::commands::Second;
-use printer::commands::Two;
 use printer::commands::Waiting;
 ghost use mathlib.Core.Path.{_≡_};
 ghost use lib.ListN.{drop};
 ghost use Rattle.printer.specs.Codes.{begunBy};
+ghost use Rattle.printer.specs.Framing.{advancedFrame};
 ghost use Rattle.printer.specs.Tools.{lookup};
-ghost use Rattle.printer.specs.declared.commands.Begun.{Begun};
 ghost use Rattle.printer.specs.declared.commands.Waiting.{Waiting};
 ghost use Rattle.registers.specs.Stores.{pended};
-ghost use Rattle.registers.specs.State.{pending, pendingBytes, pendingOf, begins, argued, resumed, imaged, kinds, waitingOf, pendingIn};
+ghost use Rattle.registers.specs.State.{pending, pendingBytes, pendingOf, begins, waitsIn, argued, resumed, imaged, kinds, waitingOf, pendingIn};
 
 // A kind, the escape's second byte, the argument or list byte before, the image columns left.
 pub struct Pending {
@@ -77,16 +77,30 @@ fn begins(code: u8) -> Waiting
     }
 }
 
+// After the third byte of ESC i, if an argument follows.
+fn advanced(b: u8) -> Waiting
+    ensures { λ r. ⌜ r ≡ waitsIn (advancedFrame b) ⌝ }
+{
+    match b {
+        b'a' => Waiting::Arguments(Begun::CommandMode),
+        _ => Waiting::Nothing,
+    }
+}
+
 // After its first argument, if another follows.
 fn argued(w: Begun, a: u8) -> Waiting
     ensures { λ r. ⌜ r ≡ argued w a ⌝ }
 {
     match w {
-        Begun::One(_) => Waiting::Nothing,
-        Begun::PageLength => Waiting::Arguments(Begun::PageInches),
-        Begun::PageInches => Waiting::Nothing,
+        Begun::PageLength => {
+            if a == 0 {
+                return Waiting::Arguments(Begun::PageInches);
+            }
+            Waiting::Nothing
+        }
+        Begun::Advanced => advanced(a),
         Begun::FirstOf(c) => Waiting::Arguments(Begun::SecondOf(c, a)),
-        Begun::SecondOf(_, _) => Waiting::Nothing,
+        _ => Waiting::Nothing,
     }
 }
 
@@ -103,37 +117,16 @@ fn resumed(begun: Waiting, b: u8) -> Waiting
     }
 }
 
-fn image_two(c: Two, n: u16) -> Waiting
-    ensures { λ r. ⌜ r ≡ imaged (Waiting.Arguments (Begun.FirstOf c)) n ⌝ }
+// Image data with so many columns to come, by its command's code.
+fn imaged(code: u8, n: u16) -> Waiting
+    ensures { λ r. ⌜ r ≡ imaged code n ⌝ }
 {
-    match c {
-        Two::Move(_) => Waiting::Nothing,
-        Two::Image(d) => Waiting::ImageData(d, n),
-    }
-}
-
-fn image_begun(w: Begun, n: u16) -> Waiting
-    ensures { λ r. ⌜ r ≡ imaged (Waiting.Arguments w) n ⌝ }
-{
-    match w {
-        Begun::One(_) => Waiting::Nothing,
-        Begun::PageLength => Waiting::Nothing,
-        Begun::PageInches => Waiting::Nothing,
-        Begun::FirstOf(c) => image_two(c, n),
-        Begun::SecondOf(_, _) => Waiting::Nothing,
-    }
-}
-
-// An image, with so many columns of data to come.
-fn imaged(begun: Waiting, n: u16) -> Waiting
-    ensures { λ r. ⌜ r ≡ imaged begun n ⌝ }
-{
-    match begun {
-        Waiting::Nothing => Waiting::Nothing,
-        Waiting::SecondByte => Waiting::Nothing,
-        Waiting::Arguments(w) => image_begun(w, n),
-        Waiting::StopList(_, _) => Waiting::Nothing,
-        Waiting::ImageData(_, _) => Waiting::Nothing,
+    match code {
+        b'K' => Waiting::ImageData(Density::Single, n),
+        b'L' => Waiting::ImageData(Density::Double, n),
+        b'Y' => Waiting::ImageData(Density::DoubleSpeed, n),
+        b'Z' => Waiting::ImageData(Density::Quadruple, n),
+        _ => Waiting::Nothing,
     }
 }
 
@@ -147,7 +140,7 @@ fn waiting_begun(v: Pending) -> Waiting
         2 => begun,
         3 => resumed(begun, v.argument),
         4 => resumed(begun, v.argument),
-        5 => imaged(begun, v.columns),
+        5 => imaged(v.command, v.columns),
         _ => Waiting::Nothing,
     }
 }

@@ -19,15 +19,22 @@ returns-3 c p v h =
     (whole h _ (argument-frame h _ refl (c .before .before .before .before .before .before .enum-told2 .given .1)) (c .before .before .before .page .ensures p v (h .held)))
 
 returns-4 : tie.Need-returns-4
-returns-4 c p v h = rw (c .waits .ensures) (waited h _ (argument-frame h _ refl (c .before .before .w2 .given .1)))
+returns-4 c p v h = c .before .before .advanced-step .ensures p v _ (rw (c .before .before .before .before .enum-told3 .given .1) at h)
 
 returns-5 : tie.Need-returns-5
-returns-5 c p v h = c .before .before .two-step .ensures p v (rw (c .before .before .before .before .before .before .w3 .given .1) at h)
+returns-5 c p v h = c .before .before .mode-step .ensures p v _ (rw (c .before .before .before .before .enum-told4 .given .1) at h)
+
+returns-6 : tie.Need-returns-6
+returns-6 c p v h = rw (c .waits .ensures) (waited h _ (argument-frame h _ refl (c .before .before .w2 .given .1)))
+
+returns-7 : tie.Need-returns-7
+returns-7 c p v h = c .before .before .two-step .ensures p v (rw (c .before .before .before .before .before .before .w3 .given .1) at h)
 
 pub argument-step-spec : {M : Type 1} → statement M
 argument-step-spec =
     tie.close
     (tie.spec (λ c. search needs) (λ c κs. search needs) (λ c κs. search needs) (λ c. search needs) (λ c κs. search needs)
     (λ c. search needs) (λ c κs. search needs) (λ c κs. search needs) (λ c. search needs) (λ c κs. search needs)
-    (λ c. search needs) (λ c κs. search needs) (λ c. search needs) returns (λ c. search needs) returns-2 (λ c. search needs)
-    returns-3 returns-4 (λ c. search needs) returns-5)
+    (λ c. search needs) (λ c κs. search needs) (λ c. search needs) (λ c κs. search needs) (λ c. search needs)
+    (λ c κs. search needs) (λ c. search needs) returns (λ c. search needs) returns-2 (λ c. search needs) returns-3
+    (λ c. search needs) returns-4 (λ c. search needs) returns-5 returns-6 (λ c. search needs) returns-7)

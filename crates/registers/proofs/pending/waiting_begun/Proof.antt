@@ -16,5 +16,5 @@ waiting-begun-spec =
     (λ c. rw (c .match .keys1, c .before .begins .ensures))
     (λ c. rw (c .before .match .keys2, c .resumed .ensures, c .before .before .begins .ensures))
     (λ c. rw (c .before .match .keys3, c .resumed2 .ensures, c .before .before .begins .ensures))
-    (λ c. rw (c .before .match .keys4, c .imaged .ensures, c .before .before .begins .ensures))
+    (λ c. rw (c .before .match .keys4, c .imaged .ensures))
     (λ c. lookup-rest 4 (drop 2 (kinds _ (c .before .before .args .v))) Waiting.Nothing _ (c .match .rest)))
