@@ -81,21 +81,22 @@ typedef struct escp_stops {
 enum {
     ESCP_NOTHING = 0,
     ESCP_SECOND_BYTE = 1,     /* an escape's second byte */
-    ESCP_FIRST_ARGUMENT = 2,  /* the first argument of an escape, or its only one */
-    ESCP_SECOND_ARGUMENT = 3, /* the second argument; that of ESC C after 0 */
+    ESCP_FIRST_ARGUMENT = 2,  /* the first argument of an escape, or its only one; the third byte of ESC i */
+    ESCP_SECOND_ARGUMENT = 3, /* the second argument; that of ESC C after 0; that of ESC i after "a" */
     ESCP_STOP_LIST = 4,       /* a byte of a tab stop list */
     ESCP_IMAGE_DATA = 5       /* image data */
 };
 
 typedef struct escp_state {
     /*
-     * What is waited for. The command is an escape's second byte: of kind 2 one that takes arguments, as 41h for ESC A;
-     * of kind 3 one that takes two ($, \, K, L, Y or Z), or C, whose first argument is then 0; of kind 4 B or D; of kind
-     * 5 K, L, Y or Z. A number that the kind does not use is 0.
+     * What is waited for. The command is an escape's second byte: of kind 2 one that takes arguments, as 41h for ESC A,
+     * or i, which takes a third byte; of kind 3 one that takes two ($, \, K, L, Y or Z), or C, whose first argument is
+     * then 0, or i, whose third byte is then 61h, "a"; of kind 4 B or D; of kind 5 K, L, Y or Z. A number that the kind
+     * does not use is 0.
      */
     uint32_t kind;          /* ESCP_NOTHING to ESCP_IMAGE_DATA */
     uint32_t command;       /* kinds 2 to 5 */
-    uint32_t argument;      /* kind 3: the first argument, 0 to 255; kind 4: the list byte before, 0 at the beginning */
+    uint32_t argument;      /* kind 3: the one that came, 0 to 255; kind 4: the list byte before, 0 at the beginning */
     uint32_t image_columns; /* kind 5: the image columns left, 1 to 65535 */
 
     /* Where the next letter stands. */
@@ -200,7 +201,7 @@ enum { ESCP_NEW_TOP = 255 };
 
 /* The reasons of a NO. */
 enum {
-    ESCP_UNLISTED = 1,    /* no control byte or escape that is listed */
+    ESCP_UNLISTED = 1,    /* no control byte, escape or third byte of ESC i that is listed */
     ESCP_NOT_ALLOWED = 2, /* an argument or a setting that is not allowed */
     ESCP_PAST_LIMITS = 3, /* past margin, page or stop limits */
     ESCP_NO_FIT = 4,      /* a letter or an image column that does not fit */
@@ -211,7 +212,7 @@ enum {
  * A record by its fields. Those that its mark does not name are 0.
  *
  * The byte of a NO is the letter, image byte or list byte that was passed over, else the control byte or the escape's
- * second byte, as received.
+ * second byte, as received; where a third byte of ESC i is unlisted, that third byte.
  *
  * Style bits, from the lowest: bold, double strike, italic, underline, superscript, subscript, double width, double
  * height, two bits of the ESC q number, proportional, reduced, italic code table, download set.

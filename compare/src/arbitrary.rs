@@ -134,9 +134,14 @@ fn disagreeing(random: &mut Random) -> Registers {
     state
 }
 
+/// The "a" of ESC i, and numbers beside it, like it, or that end ESC i.
+const A_AND_OTHERS: [u32; 12] = [
+    0x61, 0x61, 0x61, 0x60, 0x62, 0x41, 0xE1, 0x161, 0x53, 0x73, 0x69, 0x1B,
+];
+
 /// Something waited for, with numbers of other kinds than its own.
 fn with_any_waiting(random: &mut Random) -> Registers {
-    let command = match random.below(8) {
+    let command = match random.below(9) {
         0 => 0,
         1 => random.byte(),
         2 => b'C',
@@ -144,13 +149,19 @@ fn with_any_waiting(random: &mut Random) -> Registers {
         4 => random.pick(b"KLYZ"),
         5 => random.pick(TWO_ARGUMENTS),
         6 => random.pick(b"@EJM[O&*\x0F\x1B"),
+        7 => b'i',
         _ => random.pick(ONE_ARGUMENT),
+    };
+    let argument = match (command, random.below(4)) {
+        (b'i', 0) => random.byte().into(),
+        (b'i', 1 | 2) => random.pick(&A_AND_OTHERS),
+        _ => random.pick(&[0, 0, 0, 1, 255, 256]),
     };
     let above = random.pick(&[0, 0, 0, 0, 0, 0, 0, 1 << 8, 1 << 16]);
     Registers {
         kind: random.pick(&[0, 1, 2, 2, 3, 3, 4, 4, 5, 5, 6, 7, 8, 255, 256, 258]),
         command: u32::from(command) + above,
-        argument: random.pick(&[0, 0, 0, 1, 255, 256]),
+        argument,
         image_columns: random.pick(&[0, 0, 0, 1, 2, 65_535, 65_536, 65_537]),
         ..accepted(random)
     }

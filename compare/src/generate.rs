@@ -26,6 +26,12 @@ const NEAR_PAGES: [(u8, u8, u8); 6] = [
     (b'+', 19, 19),
 ];
 
+/// Third bytes of ESC i: beside "a" and "S", like them, or of other commands.
+const THIRD_BYTES: [u8; 18] = [
+    0x60, 0x62, 0x52, 0x54, b's', b'A', b'i', b'L', b'B', b'@', ESC, 0x9B, 0, 10, 0x8A, 0x30, 0xE1,
+    0xD3,
+];
+
 /// An input of so many phrases.
 pub fn input(random: &mut Random, phrases: u64) -> Vec<u8> {
     let mut bytes = Vec::new();
@@ -37,7 +43,7 @@ pub fn input(random: &mut Random, phrases: u64) -> Vec<u8> {
 
 /// Adds one phrase: a run of letters, a command, or a telling group of them.
 pub fn phrase(random: &mut Random, to: &mut Vec<u8>) {
-    match random.weighted(&[20, 22, 12, 22, 10, 6, 6, 4, 2, 3, 2, 2, 1]) {
+    match random.weighted(&[20, 22, 12, 22, 10, 6, 6, 4, 2, 3, 2, 2, 4, 1]) {
         0 => letters(random, to),
         1 => to.push(random.pick(&CONTROLS)),
         2 => to.extend([ESC, random.pick(PLAIN_ESCAPES)]),
@@ -50,6 +56,7 @@ pub fn phrase(random: &mut Random, to: &mut Vec<u8>) {
         9 => upper_codes(random, to),
         10 => random_bytes(random, to),
         11 => stops_past_the_edge(random, to),
+        12 => mode_or_status(random, to),
         _ => to.extend([ESC, b'@']),
     }
 }
@@ -283,13 +290,38 @@ fn close_margins(random: &mut Random, to: &mut Vec<u8>) {
     }
 }
 
+/// ESC i: a command mode, the status, or another third byte; now and then cut
+/// short, so that what comes next is taken for the rest.
+fn mode_or_status(random: &mut Random, to: &mut Vec<u8>) {
+    to.extend([random.pick(&[ESC, ESC, ESC, 0x9B]), b'i']);
+    match random.below(12) {
+        0..=4 => to.extend([b'a', command_mode(random)]),
+        5 => to.push(b'a'),
+        6..=7 => to.push(b'S'),
+        8 => {}
+        9 => to.push(random.byte()),
+        _ => to.push(random.pick(&THIRD_BYTES)),
+    }
+}
+
+/// An argument of ESC i a: 0, what stands for 0 elsewhere, another mode or any.
+fn command_mode(random: &mut Random) -> u8 {
+    match random.below(8) {
+        0..=3 => 0,
+        4 => random.pick(&[0x30, 0x80]),
+        5 => random.pick(&[1, 3, 4, 0x31, 0x33, 0x34, 255]),
+        6 => random.pick(&[ESC, 10, b'a', b'S', b'i']),
+        _ => random.byte(),
+    }
+}
+
 /// ESC 6 or ESC 7 and bytes from 80h to 9Fh.
 fn upper_codes(random: &mut Random, to: &mut Vec<u8>) {
     to.extend([ESC, random.pick(b"677")]);
     for _ in 0..random.between(1, 5) {
         match random.below(6) {
             0 => to.push(random.between(0x80, 0x9F) as u8),
-            1 => to.extend([0x9B, random.pick(b"E4\x0F\x8F6")]),
+            1 => to.extend([0x9B, random.pick(b"E4\x0F\x8F6ii")]),
             2 => to.extend([ESC, random.between(0x80, 0x9F) as u8]),
             _ => to.push(0x80 + random.pick(&CONTROLS)),
         }

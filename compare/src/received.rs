@@ -100,13 +100,13 @@ impl Receiving {
     }
 }
 
-/// How many arguments an escape wants, seeing those it has.
+/// How many arguments an escape wants, seeing those it has. The third byte of
+/// ESC i counts as one.
 fn wanted(second: u8, so_far: &[u8]) -> usize {
-    if second == b'C' {
-        return if so_far.first() == Some(&0) { 2 } else { 1 };
+    match (second, so_far.first()) {
+        (b'C', Some(0)) | (b'i', Some(b'a')) => 2,
+        (b'C' | b'i', _) => 1,
+        _ if b"$\\KLYZ".contains(&second) => 2,
+        _ => usize::from(b"3A+JNlQpSxWw-%tRqk !".contains(&second)),
     }
-    if b"$\\KLYZ".contains(&second) {
-        return 2;
-    }
-    usize::from(b"3A+JNlQpSxWw-%tRqk !".contains(&second))
 }

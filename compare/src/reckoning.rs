@@ -293,6 +293,8 @@ impl Reckoning {
                 self.across.set(self.settings.left + 60 * places);
             }
             b'\\' => self.across.moves += self.signed_move(number(0) + 256 * number(1)),
+            // Done, it sets nothing and moves nothing.
+            b'i' => {}
             _ => self.settings.escape(second, arguments),
         }
     }

@@ -86,6 +86,8 @@ fn plain_waiting(registers: &Registers) -> Option<Waiting> {
     match (registers.kind, command, last, columns) {
         (ierbulosc::NOTHING, 0, 0, 0) => Some(Waiting::Nothing),
         (ierbulosc::SECOND_BYTE, 0, 0, 0) => Some(Waiting::SecondByte),
+        (ierbulosc::FIRST_ARGUMENT, b'i', 0, 0) => Some(Waiting::ThirdByte),
+        (ierbulosc::SECOND_ARGUMENT, b'i', b'a', 0) => Some(Waiting::CommandMode),
         (ierbulosc::FIRST_ARGUMENT, _, 0, 0) if more(0) => arguments(0, 0),
         (ierbulosc::SECOND_ARGUMENT, _, first, 0) if more(1) => arguments(1, first),
         (ierbulosc::STOP_LIST, b'D', _, 0) => Some(Waiting::HorizontalStops { last }),
@@ -223,6 +225,8 @@ fn waiting(waiting: Waiting, thirty: u8) -> Option<[u32; 4]> {
     let (kind, command, argument, columns) = match waiting {
         Waiting::Nothing => (ierbulosc::NOTHING, 0, 0, 0),
         Waiting::SecondByte => (ierbulosc::SECOND_BYTE, 0, 0, 0),
+        Waiting::ThirdByte => (ierbulosc::FIRST_ARGUMENT, b'i', 0, 0),
+        Waiting::CommandMode => (ierbulosc::SECOND_ARGUMENT, b'i', b'a', 0),
         Waiting::Arguments {
             command,
             given,

@@ -25,6 +25,14 @@ const LINES: Limits = Limits {
     highest: LONGEST - 1,
 };
 
+/// What may be waited for inside an escape, but for arguments, lists and
+/// images.
+const INSIDE_ESCAPES: [Waiting; 3] = [
+    Waiting::SecondByte,
+    Waiting::ThirdByte,
+    Waiting::CommandMode,
+];
+
 /// Escapes with one argument, but ESC C.
 pub const ONE_ARGUMENT: &[u8] = b"3A+JNlQpSxWw-%tRqk !";
 /// Escapes with two arguments, but ESC C 0.
@@ -150,7 +158,7 @@ fn near(random: &mut Random, lowest: u32, highest: u32) -> u32 {
 /// Sets one field, or one group of fields, to some value.
 pub fn change(random: &mut Random, state: &mut State) {
     let edge = state.page_length.saturating_sub(state.skip);
-    match random.below(24) {
+    match random.below(25) {
         0 => state.resolution = random.pick(&[300, 203, 200, 0, 299, 204, 65_836]),
         1 => state.across = near(random, state.left, state.right),
         2 => state.down = near(random, 0, edge.saturating_sub(1)),
@@ -174,7 +182,8 @@ pub fn change(random: &mut Random, state: &mut State) {
         20 => await_arguments(random, state),
         21 => await_list(random, state),
         22 => await_image(random, state),
-        _ => state.waiting = random.pick(&[Waiting::Nothing, Waiting::SecondByte]),
+        23 => state.waiting = random.pick(&INSIDE_ESCAPES),
+        _ => state.waiting = Waiting::Nothing,
     }
 }
 
@@ -370,7 +379,7 @@ fn await_inside(random: &mut Random, state: &mut State) {
             0 => await_arguments(random, state),
             1 => await_list(random, state),
             2 => await_image(random, state),
-            _ => state.waiting = Waiting::SecondByte,
+            _ => state.waiting = random.pick(&INSIDE_ESCAPES),
         }
         if state.accepted() {
             return;

@@ -7,8 +7,10 @@ use compare::registers::{follows, plain};
 use compare::shrink::shrink;
 use compare::states::{self, inside, normal, reached};
 use compare::{fields, generate};
-use ierbulosc::{Settings, State as Registers, Stops, COLUMNS, LINES, RECORD_SIZE, REGISTERS};
-use plain_reader::{read, start};
+use ierbulosc::{
+    Settings, State as Registers, Stops, COLUMNS, LINES, RECORD_SIZE, REGISTERS, ROOM,
+};
+use plain_reader::{read, start, Waiting};
 use std::collections::{BTreeMap, BTreeSet};
 
 #[test]
@@ -152,7 +154,7 @@ fn too_many_stops_occur() {
 #[test]
 fn columns_above_255_occur() {
     let mut random = Random::new(7);
-    let states = (0..20_000).map(|_| arbitrary::arbitrary(&mut random));
+    let states = (0..60_000).map(|_| arbitrary::arbitrary(&mut random));
     let such = states.filter(|state| {
         let mut mended = *state;
         let mut stops = mended.columns.stops.iter_mut();
@@ -218,6 +220,87 @@ fn gathered_lists_of_both_kinds_occur() {
             state.kind != ierbulosc::STOP_LIST && state.gathered.count == count
         });
     }
+}
+
+/// Calls that are cut inside ESC i, at each place, and that go on from there.
+#[test]
+fn esc_i_is_cut_after_each_byte() {
+    let places = [
+        Waiting::SecondByte,
+        Waiting::ThirdByte,
+        Waiting::CommandMode,
+    ];
+    let mut gone_on = [0; 3];
+    for seed in 0..2_000 {
+        let outcomes = run(&calls(&mut Random::new(seed)));
+        for pair in outcomes.windows(2) {
+            let place = places
+                .iter()
+                .position(|&place| place == pair[0].state.waiting);
+            if let Some(place) = place.filter(|_| pair[1].read > 0) {
+                gone_on[place] += 1;
+            }
+        }
+    }
+    println!("{gone_on:?}");
+    assert!(gone_on.iter().all(|&such| such > 10), "{gone_on:?}");
+}
+
+/// Inside ESC i come the bytes that it takes, and those that tell readings
+/// apart.
+#[test]
+fn telling_bytes_come_inside_esc_i() {
+    let input = generate::input(&mut Random::new(10), 100_000);
+    let mut inside = [BTreeSet::new(), BTreeSet::new()];
+    let (_, mut state) = start(300, false);
+    for byte in input {
+        match state.waiting {
+            Waiting::ThirdByte => inside[0].insert(byte),
+            Waiting::CommandMode => inside[1].insert(byte),
+            _ => false,
+        };
+        read(&mut state, &[byte], 1, &mut [0; ROOM]);
+    }
+    let [thirds, modes] = inside;
+    println!("{} third bytes, {} modes", thirds.len(), modes.len());
+    assert!(b"aSsA`bRT\x1B\x9B\x8A\x0A\0"
+        .iter()
+        .all(|byte| thirds.contains(byte)));
+    assert!(b"\0\x01\x03\x04\x30\x33\x34\x80\x1B"
+        .iter()
+        .all(|byte| modes.contains(byte)));
+}
+
+/// Registers that wait for ESC i with all that may stand there, and with
+/// something else, and nothing else wrong.
+#[test]
+fn right_and_wrong_places_of_esc_i_occur() {
+    let mut random = Random::new(12);
+    let [mut third_byte, mut mode] = [0, 0];
+    let mut wrong = BTreeMap::new();
+    for _ in 0..400_000 {
+        let state = arbitrary::arbitrary(&mut random);
+        let mended = Registers {
+            kind: ierbulosc::SECOND_ARGUMENT,
+            argument: b'a'.into(),
+            ..state
+        };
+        if state.command != b'i'.into() || !accepted(&mended) {
+            continue;
+        }
+        match (accepted(&state), state.kind) {
+            (true, ierbulosc::FIRST_ARGUMENT) => third_byte += 1,
+            (true, _) => mode += 1,
+            (false, kind) => *wrong.entry((kind, state.argument)).or_insert(0) += 1,
+        }
+    }
+    println!("{third_byte} third bytes, {mode} modes, wrong: {wrong:?}");
+    assert!(third_byte > 500 && mode > 500);
+    for argument in [0, 0x60, 0x62, 0x53, 0x161] {
+        assert!(wrong.get(&(3, argument)) > Some(&3), "{argument}");
+    }
+    let kinds: BTreeSet<u32> = wrong.keys().map(|(kind, _)| *kind).collect();
+    assert!((0..=6).all(|kind| kinds.contains(&kind)), "{kinds:?}");
 }
 
 /// Parts that no rule looks at make no difference to what is read.

@@ -7,7 +7,7 @@ use compare::hold::{difference, outcomes, Case, Tally};
 use compare::random::Random;
 use compare::registers::{follows, plain};
 use compare::text;
-use ierbulosc::{State as Registers, LINES, RECORD_SIZE, REGISTERS};
+use ierbulosc::{State as Registers, COLUMNS, LINES, RECORD_SIZE, REGISTERS};
 
 #[test]
 fn no_difference_in_a_small_run() {
@@ -98,7 +98,10 @@ fn each_register_at_its_bounds() {
     let mut tally = Tally::default();
     let mut taken = [[0, 0]; REGISTERS];
     for turn in 0..160 {
-        let base = arbitrary::accepted(&mut random);
+        let base = match turn {
+            0 | 1 => gathering(&mut random),
+            _ => arbitrary::accepted(&mut random),
+        };
         for (at, taken) in taken.iter_mut().enumerate() {
             let own = base.registers()[at];
             for number in numbers(own).filter(|&number| number != own) {
@@ -126,6 +129,60 @@ fn each_register_at_its_bounds() {
             .is_some_and(|slot| slot >= LINES);
         assert_eq!(refused == 0, unseen, "{name}: {refused} refused");
         assert_eq!(accepted == 0, name.is_derived(), "{name}: {accepted}");
+    }
+}
+
+/// Registers inside the bounds that gather as many columns as there may be.
+fn gathering(random: &mut Random) -> Registers {
+    let full = |state: &Registers| {
+        state.kind == ierbulosc::STOP_LIST && state.gathered.count == COLUMNS as u32
+    };
+    let mut states = std::iter::repeat_with(|| arbitrary::accepted(random));
+    states.find(full).expect("there is no end of states")
+}
+
+/// ESC i waited for in every kind, with every byte so far and some numbers
+/// above: both readers take the same states, and read on the same.
+#[test]
+fn every_place_of_esc_i() {
+    let mut random = Random::new(13);
+    let mut tally = Tally::default();
+    for kind in (0..=6).chain([255, 256, 258, 259]) {
+        for argument in (0..=256).chain([0x153, 0x161, 0x1_0061, u32::MAX]) {
+            for (image_columns, above) in [(0, 0), (1, 0), (0, 256)] {
+                let case = Case {
+                    state: Some(Registers {
+                        kind,
+                        command: u32::from(b'i') + above,
+                        argument,
+                        image_columns,
+                        ..arbitrary::accepted(&mut random)
+                    }),
+                    calls: vec![reading(&[random.byte(), 0]), reading(b"A\x1BiSB")],
+                };
+                assert_eq!(difference(&case, &mut tally), None, "{}", text::text(&case));
+            }
+        }
+    }
+}
+
+/// Every third byte of ESC i and every argument, cut after each byte, after
+/// ESC 6 and after ESC 7, begun by 1Bh and by 9Bh.
+#[test]
+fn every_byte_inside_esc_i() {
+    let mut tally = Tally::default();
+    for (upper, first) in [(b'6', 0x1B), (b'7', 0x1B), (b'7', 0x9B)] {
+        for byte in 0..=255 {
+            for escape in [vec![first, b'i', byte], vec![first, b'i', b'a', byte]] {
+                let mut calls = vec![Call::Start(Default::default())];
+                calls.push(reading(&[0x1B, upper, 0x0E]));
+                calls.extend(escape.iter().map(|&byte| reading(&[byte])));
+                calls.push(reading(b"A\x8AB"));
+                calls.push(reading(&[&escape[..], b"\x00A\x8AB"].concat()));
+                let case = Case { state: None, calls };
+                assert_eq!(difference(&case, &mut tally), None, "{}", text::text(&case));
+            }
+        }
     }
 }
 

@@ -65,3 +65,25 @@ fn a_refused_start_begins_anew() {
     assert!(due.iter().map(|printed| &printed.record).eq(&records));
     assert_eq!(due[1].across, 360);
 }
+
+/// Done or passed over, ESC i is used up to its end and leaves the place.
+#[test]
+fn esc_i_moves_nothing() {
+    let input = b"A\x1Bia\x00B\x1BiSC\x1BisD\x1Bia\x30E\x1Bi\x0AF\x0E\x1BiSG\x1Bia";
+    let list = [
+        Call::Start(Settings::default()),
+        Call::Read {
+            input: input.to_vec(),
+            allowance: 100,
+            room: 1_000,
+        },
+    ];
+    let (records, reads) = placed(&list);
+    let due = expected(&list, &reads);
+    assert!(due.iter().map(|printed| &printed.record).eq(&records));
+    let places: Vec<(u8, i64)> = due.iter().map(|p| (p.record[6], p.across)).collect();
+    let letters = b"ABCDEFG".iter().enumerate();
+    let expected: Vec<(u8, i64)> = letters.map(|(at, &b)| (b, 360 * at as i64)).collect();
+    assert_eq!(places, expected);
+    assert!(due.iter().all(|printed| printed.down == 0));
+}

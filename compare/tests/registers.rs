@@ -4,8 +4,8 @@ use compare::fields::{differing, fields, set};
 use compare::random::Random;
 use compare::registers::{follows, image_command, normal, plain, registers};
 use compare::{arbitrary, states};
-use ierbulosc::{State as Registers, REGISTERS};
-use plain_reader::{start, Waiting};
+use ierbulosc::{State as Registers, REGISTERS, ROOM};
+use plain_reader::{read, start, Waiting};
 
 fn power_on() -> Registers {
     registers(&start(300, false).1, b'L').unwrap()
@@ -157,9 +157,10 @@ fn kinds_of_waiting() {
     for kind in [0, 1] {
         assert_eq!(commands(kind, 0, 0), [0]);
     }
-    assert_eq!(commands(2, 0, 0), b" !$%+-3ACJKLNQRSWYZ\\klpqtwx");
+    assert_eq!(commands(2, 0, 0), b" !$%+-3ACJKLNQRSWYZ\\iklpqtwx");
     assert_eq!(commands(3, 0, 0), b"$CKLYZ\\");
     assert_eq!(commands(3, 7, 0), b"$KLYZ\\");
+    assert_eq!(commands(3, b'a'.into(), 0), b"$KLYZ\\i");
     assert_eq!(commands(4, 7, 0), b"BD");
     assert_eq!(commands(5, 0, 65_535), b"KLYZ");
     for kind in (0..=255).chain([256, 257, 258, u32::MAX]) {
@@ -172,6 +173,32 @@ fn kinds_of_waiting() {
     }
     assert!(commands(5, 0, 0).is_empty() && commands(5, 1, 1).is_empty());
     assert!(commands(6, 0, 0).is_empty());
+}
+
+/// ESC i is waited for with nothing, or with "a", and not otherwise.
+#[test]
+fn the_places_of_esc_i() {
+    let mut such = Vec::new();
+    for kind in 0..=300 {
+        for argument in 0..=600 {
+            if waits(kind, b'i'.into(), argument, 0) {
+                such.push((kind, argument));
+            }
+            assert!(!waits(kind, b'i'.into(), argument, 1));
+        }
+    }
+    assert_eq!(such, [(2, 0), (3, b'a'.into())]);
+    let plain = |input: &[u8]| {
+        let (_, mut state) = start(300, false);
+        read(&mut state, input, usize::MAX, &mut [0; 4 * ROOM]);
+        let state = registers(&state, 0).unwrap();
+        (state.kind, state.command, state.argument)
+    };
+    assert_eq!(plain(b"\x1Bi"), (2, b'i'.into(), 0));
+    assert_eq!(plain(b"\x1Bia"), (3, b'i'.into(), b'a'.into()));
+    for done in [&b"\x1Bia\x00"[..], b"\x1BiS", b"\x1Bis", b"\x1Bia\x01"] {
+        assert_eq!(plain(done), (0, 0, 0));
+    }
 }
 
 #[test]

@@ -63,6 +63,7 @@ impl State {
     fn waiting_in_bounds(&self) -> bool {
         match self.waiting {
             Waiting::Nothing | Waiting::SecondByte => true,
+            Waiting::ThirdByte | Waiting::CommandMode => true,
             Waiting::Arguments {
                 command,
                 given,

@@ -25,6 +25,8 @@ impl Reading<'_> {
         match self.state.waiting {
             Waiting::Nothing => self.first_byte(byte),
             Waiting::SecondByte => self.second_byte(byte),
+            Waiting::ThirdByte => self.third_byte(byte),
+            Waiting::CommandMode => self.command_mode(byte),
             Waiting::Arguments {
                 command, given: 0, ..
             } => self.first_argument(command, byte),
@@ -101,6 +103,7 @@ impl Reading<'_> {
             b'O' => self.state.skip = 0,
             b'B' => self.begin_vertical_stops(),
             b'D' => self.begin_horizontal_stops(),
+            b'i' => self.state.waiting = Waiting::ThirdByte,
             b'P' => self.set_width(|state| state.pitch = 10),
             b'M' => self.set_width(|state| state.pitch = 12),
             b'g' => self.set_width(|state| state.pitch = 15),
@@ -120,6 +123,27 @@ impl Reading<'_> {
                 }
             }
             _ => self.records.passed_over(byte, Reason::Unlisted),
+        }
+    }
+
+    /// The third byte of ESC i, used up whatever it is: "a" has an argument,
+    /// "S" asks for the status, which the link answers.
+    #[inline(never)]
+    fn third_byte(&mut self, byte: u8) {
+        self.state.waiting = Waiting::Nothing;
+        match byte {
+            b'a' => self.state.waiting = Waiting::CommandMode,
+            b'S' => {}
+            _ => self.records.passed_over(byte, Reason::Unlisted),
+        }
+    }
+
+    /// The argument of ESC i a: 0 keeps ESC/P, and no other mode is read.
+    #[inline(never)]
+    fn command_mode(&mut self, mode: u8) {
+        self.state.waiting = Waiting::Nothing;
+        if mode != 0 {
+            self.records.passed_over(b'i', Reason::NotAllowed);
         }
     }
 

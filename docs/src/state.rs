@@ -45,6 +45,10 @@ pub enum Waiting {
     Nothing,
     /// An escape's second byte.
     SecondByte,
+    /// The third byte of ESC i.
+    ThirdByte,
+    /// The argument of ESC i a.
+    CommandMode,
     /// Arguments of a command, named by its second byte: how many are given
     /// so far, and the first of them (of no meaning while none is given).
     Arguments {

@@ -3,6 +3,7 @@
 mod answers;
 mod bounds;
 mod hand_checked;
+mod interlock;
 mod open_points;
 
 use crate::records::RECORD_SIZE;

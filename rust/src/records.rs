@@ -13,7 +13,8 @@ pub const RECORD_SIZE: usize = 14;
 /// top (ESC C, ESC @).
 pub const NEW_TOP: u8 = 255;
 
-/// [`Record::No`]: no control byte or escape that is listed.
+/// [`Record::No`]: no control byte, escape or third byte of ESC i that is
+/// listed.
 pub const UNLISTED: u8 = 1;
 /// [`Record::No`]: an argument or a setting that is not allowed.
 pub const NOT_ALLOWED: u8 = 2;
@@ -63,7 +64,8 @@ pub enum Record {
     /// What was passed over.
     No {
         /// The letter, image byte or list byte, else the control byte or the
-        /// escape's second byte, as received.
+        /// escape's second byte, as received; where a third byte of ESC i is
+        /// unlisted, that third byte.
         byte: u8,
         /// [`UNLISTED`] to [`NO_STOP`].
         reason: u8,

@@ -16,9 +16,11 @@ pub const LINES: usize = 16;
 pub const NOTHING: u32 = 0;
 /// [`State::kind`]: an escape's second byte.
 pub const SECOND_BYTE: u32 = 1;
-/// [`State::kind`]: the first argument of an escape, or its only one.
+/// [`State::kind`]: the first argument of an escape, or its only one; the third
+/// byte of ESC i.
 pub const FIRST_ARGUMENT: u32 = 2;
-/// [`State::kind`]: the second argument; that of ESC C after 0.
+/// [`State::kind`]: the second argument; that of ESC C after 0; that of ESC i
+/// after "a".
 pub const SECOND_ARGUMENT: u32 = 3;
 /// [`State::kind`]: a byte of a tab stop list.
 pub const STOP_LIST: u32 = 4;
@@ -62,12 +64,13 @@ pub struct State {
     /// number that the kind does not use is 0.
     pub kind: u32,
     /// Kinds 2 to 5: the escape's second byte: of kind 2 one that takes
-    /// arguments, as 41h for ESC A; of kind 3 one that takes two ($, \\, K, L,
-    /// Y or Z), or C, whose first argument is then 0; of kind 4 B or D; of kind
-    /// 5 K, L, Y or Z.
+    /// arguments, as 41h for ESC A, or i, which takes a third byte; of kind 3
+    /// one that takes two ($, \\, K, L, Y or Z), or C, whose first argument is
+    /// then 0, or i, whose third byte is then 61h, "a"; of kind 4 B or D; of
+    /// kind 5 K, L, Y or Z.
     pub command: u32,
-    /// Kind 3: the first argument, 0 to 255; kind 4: the list byte before, 0
-    /// at the beginning.
+    /// Kind 3: the one that came, 0 to 255; kind 4: the list byte before, 0 at
+    /// the beginning.
     pub argument: u32,
     /// Kind 5: the image columns left, 1 to 65,535.
     pub image_columns: u32,

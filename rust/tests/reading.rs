@@ -1,9 +1,9 @@
 //! The library through the safe cover.
 
 use ierbulosc::{
-    records, Record, Settings, State, Stops, ALLOWANCE_USED, COLUMNS, INPUT_USED, NEW_TOP, NOTHING,
-    NOT_ALLOWED, OUTPUT_FULL, RECORD_SIZE, REGISTERS, ROOM, SETTINGS_REFUSED, STATE_REFUSED,
-    STOP_LIST, UNLISTED,
+    records, Record, Settings, State, Stops, ALLOWANCE_USED, COLUMNS, FIRST_ARGUMENT, INPUT_USED,
+    NEW_TOP, NOTHING, NOT_ALLOWED, OUTPUT_FULL, RECORD_SIZE, REGISTERS, ROOM, SECOND_ARGUMENT,
+    SETTINGS_REFUSED, STATE_REFUSED, STOP_LIST, UNLISTED,
 };
 
 const FILL: u8 = 0xE5;
@@ -163,6 +163,46 @@ fn stops_are_gathered_then_in_force() {
     assert_eq!(state.columns.held(), [5, 10]);
     assert_eq!(state.lines.held(), [1_200, 1_800]);
     assert_eq!((state.lines_set, state.gathered), (1, Stops::NONE));
+}
+
+/// What is waited for: kind, command and argument.
+fn waiting(state: &State) -> (u32, u32, u32) {
+    assert_eq!(state.image_columns, 0);
+    (state.kind, state.command, state.argument)
+}
+
+/// ESC i has two places, and leaves all as it was where it is done.
+#[test]
+fn esc_i_is_waited_for_and_done() {
+    let mut state = power_on();
+    let mut read = |input: &[u8]| {
+        let report = state.read(input, usize::MAX, &mut [FILL; 9 * ROOM]);
+        assert_eq!((report.answer, report.read), (INPUT_USED, input.len()));
+        assert_eq!(report.written, 0);
+        state
+    };
+    let i = b'i'.into();
+    assert_eq!(waiting(&read(b"\x1Bi")), (FIRST_ARGUMENT, i, 0));
+    let state = read(b"a");
+    assert_eq!(waiting(&state), (SECOND_ARGUMENT, i, b'a'.into()));
+    assert_eq!(read(b"\x00"), power_on());
+    assert_eq!(read(b"\x1BiS"), power_on());
+    for argument in (0..=256).filter(|&argument| argument != b'a'.into()) {
+        let mut other = State { argument, ..state };
+        let report = other.read(b"", 0, &mut []);
+        assert_eq!(report.answer, STATE_REFUSED, "{argument}");
+    }
+}
+
+#[test]
+fn what_is_passed_over_of_esc_i() {
+    let mut state = power_on();
+    let mut out = [FILL; 9 * ROOM];
+    let report = state.read(b"\x1Bia\x30\x1Bis", usize::MAX, &mut out);
+    let came: Vec<Record> = records(&out[..report.written]).collect();
+    let no = |byte, reason| Record::No { byte, reason };
+    assert_eq!(came, [no(b'i', NOT_ALLOWED), no(b's', UNLISTED)]);
+    assert_eq!(state, power_on());
 }
 
 #[test]

@@ -162,7 +162,12 @@ fn a_list_being_gathered_has_the_limits_of_its_kind() {
 
 #[test]
 fn the_gathering_place_is_free_while_no_list_is_gathered() {
-    for waiting in [Waiting::Nothing, Waiting::SecondByte] {
+    for waiting in [
+        Waiting::Nothing,
+        Waiting::SecondByte,
+        Waiting::ThirdByte,
+        Waiting::CommandMode,
+    ] {
         for count in [0, 33, usize::MAX] {
             let any = Stops {
                 stops: [u32::MAX; MOST_HORIZONTAL_STOPS],
@@ -215,6 +220,25 @@ fn arguments_so_far() {
     assert!(!arguments(b'C', 1, 1));
     let listed = (0..=255).filter(|&command| arguments(command, 0, 0));
     assert_eq!(listed.count(), 27);
+}
+
+/// ESC i has places of its own, and none among the arguments.
+#[test]
+fn the_places_of_esc_i() {
+    for waiting in [Waiting::ThirdByte, Waiting::CommandMode] {
+        assert!(accepts(|s| s.waiting = waiting));
+    }
+    for given in [0, 1, 2] {
+        for first in 0..=255 {
+            let command = b'i';
+            let waiting = Waiting::Arguments {
+                command,
+                given,
+                first,
+            };
+            assert!(!accepts(|s| s.waiting = waiting));
+        }
+    }
 }
 
 #[test]
