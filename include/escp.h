@@ -96,7 +96,7 @@ typedef struct escp_state {
      */
     uint32_t kind;          /* ESCP_NOTHING to ESCP_IMAGE_DATA */
     uint32_t command;       /* kinds 2 to 5 */
-    uint32_t argument;      /* kind 3: the one that came, 0 to 255; kind 4: the list byte before, 0 at the beginning */
+    uint32_t argument;      /* kind 3: the one that came, 0 to 255, of C 0, of i 61h; kind 4: the list byte before, 0 at the beginning */
     uint32_t image_columns; /* kind 5: the image columns left, 1 to 65535 */
 
     /* Where the next letter stands. */

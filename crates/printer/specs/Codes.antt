@@ -107,7 +107,7 @@ seconds = plainEscapes ++ (argumentEscapes ++ otherEscapes)
 -- Commands as received
 
 -- a command's bytes: its code and its arguments. An escape's first byte is a command by itself, so its code is its second byte. Or its code
--- and the third byte, which says which it is.
+-- and a third byte, which a NO then bears.
 pub data Received : Type 0 where
   by : (code : ℕ) → (arguments : List ℕ) → Received
   byThird : (code third : ℕ) → Received

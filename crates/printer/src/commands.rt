@@ -1,4 +1,5 @@
 // The commands as received, and what the reader waits for between them.
+// `Frame`, `Command`, `Look`, `Refused`, `Silent` and `ListPart` are words of the definitions: no code builds them.
 use crate::settings::Pitch;
 
 // The control bytes that are commands.
@@ -178,7 +179,7 @@ pub enum Begun {
     PageLength,
     // The argument of ESC C 0.
     PageInches,
-    // The third byte of ESC i, which says which of the advanced commands it is.
+    // The third byte of ESC i.
     Advanced,
     // The argument of ESC i a.
     CommandMode,
