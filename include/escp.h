@@ -9,6 +9,7 @@
  *     escp_settings settings = {300, 0};
  *     escp_state state;
  *     escp_counts counts;
+ *     escp_part part;
  *     escp_start(&state, &settings);
  *     answer = escp_read(&state, input, input_length, SIZE_MAX, out, out_length, &counts);
  *     for (at = 0; at < counts.written; at += ESCP_RECORD_SIZE) {
@@ -17,6 +18,9 @@
  *         if (record.mark == ESCP_TX)
  *             ... the letter record.byte at record.column, record.row ...
  *     }
+ *     answer = escp_slot(out, counts.written, 1200, 1499, &part);
+ *     if (part.length > 0)
+ *         ... the record at out + part.offset is what stands in the columns 1200 to 1499 now ...
  *
  * Input may come in pieces of any length, cut anywhere, even inside a command: the records are those of the whole.
  */
@@ -30,7 +34,7 @@
 extern "C" {
 #endif
 
-/* The answers. */
+/* The answers of a start and of reading. */
 enum {
     ESCP_INPUT_USED = 0,       /* all of the input was read; a start: done */
     ESCP_ALLOWANCE_USED = 1,   /* as many bytes as allowed were read, and input is left */
@@ -261,6 +265,40 @@ static inline void escp_fill_record(escp_record *record, const uint8_t *bytes)
         record->style = 0;
     }
 }
+
+/* The answers of escp_slot. They are its own: of another call the same number may say something else. */
+enum {
+    ESCP_ANSWERED = 0,      /* the record was found, or there is none */
+    ESCP_LENGTH_REFUSED = 5 /* the list's length is no multiple of ESCP_RECORD_SIZE */
+};
+
+/* A part of a list of records: the bytes before it, and its own. */
+typedef struct escp_part {
+    size_t offset;
+    size_t length;
+} escp_part;
+
+/*
+ * Finds what stands under a slot now: of a list of records, the last TX that survives on the present page and whose
+ * column lies from `from` to `to`, both included. The list is the output of reading calls, joined in order.
+ *
+ * The present page begins after the last LN whose pages are not 0 (ESCP_NEW_TOP counts); without such an LN, at the
+ * list's beginning. On it a CL voids the TX since the last LN of any pages, CL, or the list's beginning; the others
+ * survive. So a TX on the present page is void if the first LN or CL after it is a CL. A TX lies where its column says,
+ * however far to the right its letter reaches. Records with any other mark count for nothing. Records of several starts
+ * joined are one list: a start leaves no record, and begins no page.
+ *
+ * 0: *part is that record's bytes in the list, ESCP_RECORD_SIZE of them at records + part->offset. If there is no such
+ *    record, as where `from` is above `to` or the list is empty, *part is empty: its offset and its length are 0.
+ * 5: `length` is no multiple of ESCP_RECORD_SIZE. It is tested before all else. *part is empty, as above.
+ * *part is written whatever the answer; what it held does not matter. The list, which may be any bytes, stays as it was:
+ * the record found is a part of it and no copy. The search begins at the newest record, and ends where the answer is
+ * certain: at the record found, or where the present page begins.
+ *
+ * The list may be empty (length 0). Neither pointer may be NULL, even of an empty list: nothing promises what happens
+ * then. *part may not overlap the list.
+ */
+uint8_t escp_slot(const uint8_t *records, size_t length, uint16_t from, uint16_t to, escp_part *part);
 
 #ifdef __cplusplus
 }

@@ -1,7 +1,8 @@
 //! Holds the proved reader, through its C interface, against the plain one,
 //! and that against the plain one in runs: generated inputs and calls,
 //! arbitrary states, the reckoning of exact places, and a search for the
-//! shortest input that tells them apart.
+//! shortest input that tells them apart; and the question what stands in a
+//! range of columns, asked of generated lists of records.
 
 pub mod arbitrary;
 pub mod calls;
@@ -17,6 +18,7 @@ pub mod runs;
 pub mod settings;
 pub mod shortest;
 pub mod shrink;
+pub mod slots;
 pub mod states;
 pub mod tell;
 pub mod text;

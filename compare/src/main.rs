@@ -1,24 +1,26 @@
 //! Holds the proved reader and both plain ones against each other on generated
-//! lists of calls and arbitrary states.
+//! lists of calls and arbitrary states, and the question what stands in a
+//! range of columns on generated lists of records.
 
 use compare::calls::calls;
 use compare::hold::{difference, outcomes, Case, Tally};
 use compare::random::Random;
 use compare::shortest::shortest;
-use compare::{arbitrary, registers, tell, text};
+use compare::{arbitrary, registers, slots, tell, text};
 use std::process::ExitCode;
 
 const HELP: &str = "\
 compare: holds the proved reader against the plain one, and that against the plain one in runs
 
     compare                        the gate run
-    compare --lists N --states N --seed S
-                                   so many lists of calls and arbitrary states
+    compare --lists N --states N --slots N --seed S
+                                   so many lists of calls, arbitrary states, and lists of records
+                                   asked what stands in a range of columns
     compare --replay FILE          one case from a file, with all outcomes
     compare --help                 this text
 
-Without them, N is 400000 lists and 4000000 states, S is 1. A difference is printed with the
-shortest input found, which --replay reads, and the exit status is then 1.
+Without them, N is 400000 lists, 4000000 states and 2000000 slots, S is 1. A difference is printed
+with the shortest input found, which --replay reads, and the exit status is then 1.
 ";
 
 const DIFFERENCE: u8 = 1;
@@ -29,6 +31,7 @@ const BAD_USAGE: u8 = 2;
 struct Amount {
     lists: u64,
     states: u64,
+    slots: u64,
     seed: u64,
 }
 
@@ -61,6 +64,7 @@ fn task(arguments: &[String]) -> Result<Task, String> {
     let mut amount = Amount {
         lists: 400_000,
         states: 4_000_000,
+        slots: 2_000_000,
         seed: 1,
     };
     let words: Vec<&str> = arguments.iter().map(String::as_str).collect();
@@ -74,6 +78,7 @@ fn task(arguments: &[String]) -> Result<Task, String> {
         let number = match option {
             "--lists" => &mut amount.lists,
             "--states" => &mut amount.states,
+            "--slots" => &mut amount.slots,
             "--seed" => &mut amount.seed,
             _ => return Err(format!("bad argument {option:?}; see compare --help")),
         };
@@ -85,16 +90,27 @@ fn task(arguments: &[String]) -> Result<Task, String> {
     Ok(Task::Run(amount))
 }
 
-/// Compares lists, then states; prints what was done, or the difference.
+/// Compares lists, states, then slots; prints what was done, or the
+/// difference.
 fn run(amount: &Amount) -> ExitCode {
     let mut seeds = Random::new(amount.seed);
+    let readers = readers(amount, &mut seeds);
+    match readers.and_then(|()| questions(amount, &mut seeds)) {
+        Ok(()) => ExitCode::SUCCESS,
+        Err(status) => status,
+    }
+}
+
+/// Lists of calls, then states; the exit status if there is a difference.
+fn readers(amount: &Amount, seeds: &mut Random) -> Result<(), ExitCode> {
     let mut tally = Tally::default();
     for list in 1..=amount.lists {
         let calls = calls(&mut Random::new(seeds.number()));
         let case = Case { state: None, calls };
         if difference(&case, &mut tally).is_some() {
             let before = format!("after {} lists without one", list - 1);
-            return report(&case, &format!("difference in list {list}, {before}"));
+            let head = format!("difference in list {list}, {before}");
+            return Err(report(&case, &head));
         }
     }
     let mut accepted = 0;
@@ -105,7 +121,7 @@ fn run(amount: &Amount) -> ExitCode {
         if difference(&case, &mut tally).is_some() {
             let before = format!("after {} lists and {}", amount.lists, state - 1);
             let head = format!("difference in state {state}, {before} states without one");
-            return report(&case, &head);
+            return Err(report(&case, &head));
         }
     }
     println!(
@@ -113,7 +129,35 @@ fn run(amount: &Amount) -> ExitCode {
          {} calls, {} bytes read",
         amount.lists, amount.states, tally.calls, tally.bytes
     );
-    ExitCode::SUCCESS
+    Ok(())
+}
+
+/// Lists of records asked what stands in a range of columns; the exit status
+/// if there is a difference.
+fn questions(amount: &Amount, seeds: &mut Random) -> Result<(), ExitCode> {
+    let mut tally = slots::Tally::default();
+    for slot in 1..=amount.slots {
+        let question = slots::generate::question(&mut Random::new(seeds.number()));
+        if slots::difference(&question, &mut tally).is_some() {
+            let before = format!("after {} slots without one", slot - 1);
+            println!("compare: difference in slot {slot}, {before}");
+            return Err(report_question(&question));
+        }
+    }
+    println!(
+        "compare: no difference in {} slots, {} of them found and {} refused; {} records",
+        amount.slots, tally.found, tally.refused, tally.records
+    );
+    Ok(())
+}
+
+/// Prints the shortest list that differs and what came back.
+fn report_question(question: &slots::Question) -> ExitCode {
+    let differs = |question: &slots::Question| !slots::answers(question).same();
+    let short = slots::shortest::shortest(question, &differs);
+    println!("the shortest list found:\n{}", slots::text::text(&short));
+    print!("{}", slots::text::both(&slots::answers(&short)));
+    ExitCode::from(DIFFERENCE)
 }
 
 /// Prints the shortest case that differs and what came back.
@@ -130,7 +174,12 @@ fn report(case: &Case, head: &str) -> ExitCode {
 /// Runs one case and prints what both readers come back with from each call.
 fn replay(file: &str) -> Result<ExitCode, String> {
     let text = std::fs::read_to_string(file).map_err(|error| format!("{file}: {error}"))?;
-    let case = text::case(&text).map_err(|problem| format!("{file}: {problem}"))?;
+    let told = |problem| format!("{file}: {problem}");
+    if slots::text::is_question(&text) {
+        let question = slots::text::question(&text).map_err(told)?;
+        return Ok(replay_question(&question));
+    }
+    let case = text::case(&text).map_err(told)?;
     for (index, (plain, proved)) in outcomes(&case).iter().enumerate() {
         print!("call {}:\n{}", index + 1, tell::both(plain, proved));
     }
@@ -144,4 +193,16 @@ fn replay(file: &str) -> Result<ExitCode, String> {
             Ok(ExitCode::from(DIFFERENCE))
         }
     }
+}
+
+/// Asks one question and prints what both come back with.
+fn replay_question(question: &slots::Question) -> ExitCode {
+    let answers = slots::answers(question);
+    print!("{}", slots::text::both(&answers));
+    if answers.same() {
+        println!("no difference");
+        return ExitCode::SUCCESS;
+    }
+    println!("difference");
+    ExitCode::from(DIFFERENCE)
 }

@@ -30,6 +30,9 @@ fn bad_usage() {
         &["--lists"],
         &["--lists", "many"],
         &["--states", "-1"],
+        &["--slots"],
+        &["--slots", "5.5"],
+        &["--slot", "5"],
         &["--seed", "1", "2"],
         &["--replay"],
         &["--replay", "/no/such/file"],
@@ -43,6 +46,7 @@ fn bad_usage() {
         &["--runs", "both"],
         &["--watch"],
         &["--write", "one", "two"],
+        &["--slots", "5"],
     ] {
         is_refused(&speed(arguments));
     }
@@ -50,11 +54,30 @@ fn bad_usage() {
 
 #[test]
 fn a_short_run() {
-    let output = compare(&["--lists", "20", "--seed", "9", "--states", "30"]);
-    let line = String::from_utf8_lossy(&output.stdout);
+    let amount = ["--lists", "20", "--slots", "40", "--states", "30"];
+    let output = compare(&[&amount[..], &["--seed", "9"]].concat());
+    let lines = String::from_utf8_lossy(&output.stdout);
     assert_eq!(output.status.code(), Some(0));
-    assert!(line.contains("20 lists of calls and 30 states"), "{line}");
-    assert_eq!(line.lines().count(), 1);
+    let said: Vec<&str> = lines.lines().collect();
+    assert_eq!(said.len(), 2, "{lines}");
+    assert!(said[0].contains("in 20 lists of calls and 30 states"));
+    assert!(said[1].contains("in 40 slots"), "{lines}");
+}
+
+/// Records as `escp` writes them, asked again; a line that is none is refused.
+#[test]
+fn a_question_replayed() {
+    let file = concat!(env!("CARGO_TARGET_TMPDIR"), "/question");
+    let records = "5458b00400003400000000006801\n4c4e000032000000000000000000\n";
+    std::fs::write(file, format!("slot 1100 1300\n{records}")).unwrap();
+    let output = compare(&["--replay", file]);
+    let lines = String::from_utf8_lossy(&output.stdout);
+    assert_eq!(output.status.code(), Some(0), "{lines}");
+    let found = "number 0, part of 14 bytes from byte 0";
+    let expected = format!("plain:  {found}\nproved: {found}\nno difference\n");
+    assert_eq!(lines, expected);
+    std::fs::write(file, format!("slot 1100\n{records}")).unwrap();
+    is_refused(&compare(&["--replay", file]));
 }
 
 /// Without valgrind, or without a limit, the watch over speed fails, and says
@@ -78,7 +101,22 @@ fn the_stack_is_measured() {
     let output = speed(&["--stack"]);
     let table = String::from_utf8_lossy(&output.stdout);
     assert_eq!(output.status.code(), Some(0), "{table}");
-    assert_eq!(table.lines().count(), 4, "{table}");
+    assert_eq!(table.lines().count(), 5, "{table}");
+}
+
+/// Slots are measured without valgrind too, but for their instructions.
+#[test]
+fn slots_are_measured() {
+    let mut slots = Command::new(env!("CARGO_BIN_EXE_speed"));
+    let output = slots.arg("--slots").env("PATH", "").output().unwrap();
+    let table = String::from_utf8_lossy(&output.stdout);
+    assert_eq!(output.status.code(), Some(0), "{table}");
+    let lines: Vec<&str> = table.lines().collect();
+    assert_eq!(lines.len(), 9, "{table}");
+    assert!(lines[2..].iter().all(|line| line.contains("not counted")));
+    let output = speed(&["--slot-calls"]);
+    assert_eq!(output.status.code(), Some(0));
+    assert!(output.stdout.is_empty() && output.stderr.is_empty());
 }
 
 #[test]

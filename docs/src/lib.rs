@@ -1,7 +1,8 @@
 //! Plain readers of the ESC/P legacy page language: bytes come in, placed
 //! records come out. One unit is 1/3600 inch. [`read`] takes byte by byte;
 //! [`read_in_runs`] takes letters that follow each other, and image data, in
-//! runs. Both give the same answers.
+//! runs. Both give the same answers. [`slot`] asks a list of records what
+//! stands in a range of columns now.
 
 mod bounds;
 mod commands;
@@ -9,11 +10,13 @@ mod place;
 mod reading;
 mod records;
 mod runs;
+mod slot;
 mod state;
 mod stops;
 #[cfg(test)]
 mod tests;
 
+pub use slot::{slot, ANSWERED, LIST_REFUSED};
 pub use state::{State, Stops, Waiting};
 
 use reading::Reading;

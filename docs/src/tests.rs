@@ -5,6 +5,7 @@ mod bounds;
 mod hand_checked;
 mod interlock;
 mod open_points;
+mod slot;
 
 use crate::records::RECORD_SIZE;
 use crate::{read_in_runs, start, Report, State, ROOM_FOR_A_BYTE};

@@ -1,20 +1,23 @@
 //! Reads ESC/P from standard input in pieces of five bytes and shows the page
 //! as it stands at the end: its lines of letters, how many bytes of images are
-//! on it, and where RELEASED stands, with the slot number above it.
+//! on it, and what stands now in each of a card's seven slots.
 //!
 //! ```text
 //! card [DOTS] < INPUT     at 300 dots to the inch, or 203
 //! ```
 
 use ierbulosc::{
-    records, Record, Settings, State, ALLOWANCE_USED, INPUT_USED, OUTPUT_FULL, ROOM,
-    SETTINGS_REFUSED, STATE_REFUSED,
+    records, slot, Record, Settings, State, ALLOWANCE_USED, INPUT_USED, LENGTH_REFUSED,
+    OUTPUT_FULL, ROOM, SETTINGS_REFUSED, STATE_REFUSED,
 };
 use std::io::Read;
 use std::process::ExitCode;
 
-const WORD: &[u8] = b"RELEASED";
 const PIECE: usize = 5;
+/// The slots of a card: each begins at a tab stop, and goes up to the next.
+const SLOTS: usize = 7;
+/// The row of a card in which the slots' numbers stand.
+const HEADING: u16 = 0;
 
 /// A letter of the page, its place in dots and its width in units.
 #[derive(Clone, Copy)]
@@ -23,6 +26,27 @@ struct Letter {
     column: u16,
     row: u16,
     advance: u16,
+}
+
+impl Letter {
+    /// The letter of a record, if it is one.
+    fn of(record: Record) -> Option<Letter> {
+        match record {
+            Record::Tx {
+                column,
+                row,
+                byte,
+                advance,
+                ..
+            } => Some(Letter {
+                byte,
+                column,
+                row,
+                advance,
+            }),
+            _ => None,
+        }
+    }
 }
 
 /// A page: its letters, and how many image bytes it has.
@@ -38,18 +62,7 @@ impl Page {
     /// What a record does to the page.
     fn take(&mut self, record: Record) {
         match record {
-            Record::Tx {
-                column,
-                row,
-                byte,
-                advance,
-                ..
-            } => self.letters.push(Letter {
-                byte,
-                column,
-                row,
-                advance,
-            }),
+            Record::Tx { .. } => self.letters.extend(Letter::of(record)),
             Record::Im { .. } => self.images += 1,
             Record::Ln { pages, .. } => {
                 // A page turned, or a new top: another sheet.
@@ -83,18 +96,6 @@ impl Page {
         };
         lines.map(line).collect()
     }
-
-    /// Where the word stands, and the slot number above its first letter.
-    fn released(&self) -> Option<String> {
-        let is_word = |part: &[Letter]| part.iter().map(|letter| letter.byte).eq(WORD.to_vec());
-        let mut words = self.letters.windows(WORD.len());
-        let Letter { column, row, .. } = words.find(|part| is_word(part))?[0];
-        let above = |letter: &&Letter| letter.column == column && letter.row < row;
-        let slot = char::from(self.letters.iter().rfind(above)?.byte);
-        Some(format!(
-            "RELEASED at column {column}, row {row}, under slot {slot}"
-        ))
-    }
 }
 
 /// Whether a letter stands apart from the one before it, by more than a dot
@@ -107,8 +108,9 @@ fn stands_apart(before: &Letter, letter: &Letter, dots: u32) -> bool {
 fn main() -> ExitCode {
     let dots = std::env::args().nth(1);
     let dots = dots.map_or(300, |word| word.parse().unwrap_or(0));
-    match page(dots) {
-        Ok(page) => show(&page, dots),
+    let shown = read(dots).and_then(|(list, state)| show(&list, &state));
+    match shown {
+        Ok(()) => ExitCode::SUCCESS,
         Err(problem) => {
             eprintln!("card: {problem}");
             ExitCode::FAILURE
@@ -124,13 +126,15 @@ fn done(answer: u8) -> Result<(), String> {
         OUTPUT_FULL => "input is left over: the output is full",
         SETTINGS_REFUSED => "300 or 203 dots to the inch",
         STATE_REFUSED => "the state is none that the reader left",
+        LENGTH_REFUSED => "the list ends within a record",
         _ => "an answer that is none of the reader's",
     };
     Err(problem.to_string())
 }
 
-/// The page that standard input leaves, at so many dots to the inch.
-fn page(resolution: u32) -> Result<Page, String> {
+/// All records of standard input, at so many dots to the inch, and the state
+/// at its end. (Records of the pages before the present one could be let go.)
+fn read(resolution: u32) -> Result<(Vec<u8>, State), String> {
     let (answer, mut state) = State::start(&Settings {
         resolution,
         ..Settings::default()
@@ -141,25 +145,68 @@ fn page(resolution: u32) -> Result<Page, String> {
     stdin
         .read_to_end(&mut input)
         .map_err(|error| error.to_string())?;
-    let mut page = Page::default();
+    let mut list = Vec::new();
     for piece in input.chunks(PIECE) {
         let mut out = [0; PIECE * ROOM];
         let report = state.read(piece, piece.len(), &mut out);
         done(report.answer)?;
-        records(&out[..report.written]).for_each(|record| page.take(record));
+        list.extend_from_slice(&out[..report.written]);
     }
-    Ok(page)
+    Ok((list, state))
 }
 
-fn show(page: &Page, dots: u32) -> ExitCode {
-    for line in page.lines(dots) {
+/// The dot column at which a slot begins, counted from 0: its stop's, or past
+/// the last one the right margin's.
+fn begin(state: &State, slot: usize) -> u16 {
+    let stops = state.columns.held().iter().take(SLOTS);
+    let place = |stop: &u32| state.left + stop * state.column_width;
+    let units = stops.map(place).nth(slot).unwrap_or(state.right);
+    let units = units.min(state.right);
+    ((units * state.dots_across + 1_800) / 3_600) as u16
+}
+
+/// The word that stands now from one column to another, both included, below
+/// the heading; empty if nothing does. The newest letter ends it. The letter
+/// before that is the newest to the left of it, if in the same row, and so on.
+fn word(list: &[u8], from: u16, mut to: u16) -> Result<Vec<Letter>, String> {
+    let mut word: Vec<Letter> = Vec::new();
+    loop {
+        let (answer, part) = slot(list, from, to);
+        done(answer)?;
+        let Some(letter) = records(part).next().and_then(Letter::of) else {
+            break;
+        };
+        let row = word.last().map_or(letter.row, |after| after.row);
+        if letter.row == HEADING || letter.row != row {
+            break;
+        }
+        word.push(letter);
+        if letter.column == from {
+            break;
+        }
+        to = letter.column - 1;
+    }
+    word.reverse();
+    Ok(word)
+}
+
+/// Shows the page, and what stands in each slot now. The driver counts slots
+/// from 1, the electricians from 0.
+fn show(list: &[u8], state: &State) -> Result<(), String> {
+    let mut page = Page::default();
+    records(list).for_each(|record| page.take(record));
+    for line in page.lines(state.dots_across) {
         println!("{line}");
     }
     println!("image bytes: {}", page.images);
-    let Some(line) = page.released() else {
-        eprintln!("card: RELEASED is not on the card");
-        return ExitCode::FAILURE;
-    };
-    println!("{line}");
-    ExitCode::SUCCESS
+    for slot in 0..SLOTS {
+        let word = word(list, begin(state, slot), begin(state, slot + 1) - 1)?;
+        let text: String = word.iter().map(|letter| char::from(letter.byte)).collect();
+        let standing = match word.first() {
+            None => "nothing".to_string(),
+            Some(Letter { column, row, .. }) => format!("{text} at column {column}, row {row}"),
+        };
+        println!("slot {} (electricians: {slot}): {standing}", slot + 1);
+    }
+    Ok(())
 }

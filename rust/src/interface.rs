@@ -10,6 +10,13 @@ pub struct Counts {
     pub written: usize,
 }
 
+/// A part of a list of records: the bytes before it, and its own.
+#[repr(C)]
+pub struct Part {
+    pub offset: usize,
+    pub length: usize,
+}
+
 extern "C" {
     /// See [`State::start`].
     pub fn escp_start(state: *mut State, settings: *const Settings) -> u8;
@@ -24,4 +31,7 @@ extern "C" {
         out_length: usize,
         counts: *mut Counts,
     ) -> u8;
+
+    /// See [`slot`](crate::slot).
+    pub fn escp_slot(records: *const u8, length: usize, from: u16, to: u16, part: *mut Part) -> u8;
 }

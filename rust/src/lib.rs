@@ -24,7 +24,7 @@ pub mod interface;
 mod records;
 mod state;
 
-use interface::{escp_read, escp_start, Counts};
+use interface::{escp_read, escp_slot, escp_start, Counts, Part};
 
 pub use records::*;
 pub use state::*;
@@ -39,6 +39,11 @@ pub const OUTPUT_FULL: u8 = 2;
 pub const SETTINGS_REFUSED: u8 = 3;
 /// The state is none that the library leaves.
 pub const STATE_REFUSED: u8 = 4;
+
+/// [`slot`]: the record was found, or there is none.
+pub const ANSWERED: u8 = 0;
+/// [`slot`]: the list's length is no multiple of [`RECORD_SIZE`].
+pub const LENGTH_REFUSED: u8 = 5;
 
 /// The room that must be left in the output for a byte to be read: it writes
 /// at most two records.
@@ -115,4 +120,57 @@ impl State {
             written: counts.written,
         }
     }
+}
+
+/// Finds what stands under a slot now: of a list of records, the last TX that
+/// survives on the present page and whose column lies from `from` to `to`,
+/// both included. The list is the output of reading calls, joined in order.
+///
+/// - The present page begins after the last LN whose pages are not 0
+///   ([`NEW_TOP`] counts); without such an LN, at the list's beginning.
+/// - On it a CL voids the TX since the last LN of any pages, CL, or the list's
+///   beginning; the others survive.
+/// - A TX lies where its column says, however far to the right its letter
+///   reaches. Records with any other mark count for nothing. Records of
+///   several starts joined are one list.
+///
+/// The answer and the part of the list with it:
+/// - [`ANSWERED`]: the record's [`RECORD_SIZE`] bytes, where they stand in the
+///   list. The part is empty if there is no such record, as where `from` is
+///   above `to`.
+/// - [`LENGTH_REFUSED`]: the list's length is no multiple of [`RECORD_SIZE`].
+///   This is tested before all else. The part is empty.
+///
+/// The list may be any bytes. The search begins at the newest record, and ends
+/// where the answer is certain: at the record found, or where the present page
+/// begins.
+///
+/// ```
+/// use ierbulosc::{records, slot, Record, Settings, State, ANSWERED, ROOM};
+///
+/// let (_, mut state) = State::start(&Settings::default());
+/// let mut out = [0; 3 * ROOM];
+/// let report = state.read(b"A\nB", usize::MAX, &mut out);
+/// let list = &out[..report.written];
+/// let (answer, part) = slot(list, 0, 29);
+/// assert_eq!(answer, ANSWERED);
+/// let newest = records(part).next();
+/// assert!(matches!(newest, Some(Record::Tx { byte: b'B', row: 50, .. })));
+/// let (answer, part) = slot(list, 30, 59);
+/// assert_eq!(answer, ANSWERED);
+/// assert!(part.is_empty());
+/// ```
+pub fn slot(records: &[u8], from: u16, to: u16) -> (u8, &[u8]) {
+    let mut part = Part {
+        offset: 0,
+        length: 0,
+    };
+    // SAFETY: no pointer is null, even of an empty slice, and the list's is
+    // good for its length. The part is held exclusively, so that it does not
+    // overlap the list, and is plain numbers, which the library may set to any
+    // value. The library only reads the list and keeps no pointer.
+    let answer = unsafe { escp_slot(records.as_ptr(), records.len(), from, to, &mut part) };
+    // The part lies in the list, as is proved; a slice cannot know it.
+    let rest = records.get(part.offset..).unwrap_or_default();
+    (answer, rest.get(..part.length).unwrap_or_default())
 }

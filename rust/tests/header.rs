@@ -77,6 +77,7 @@ fn c_type(rust: &str) -> String {
     }
     match rust {
         "u8" => "uint8_t".to_string(),
+        "u16" => "uint16_t".to_string(),
         "u32" => "uint32_t".to_string(),
         "usize" => "size_t".to_string(),
         _ => format!("escp_{}", rust.to_lowercase()),
@@ -228,8 +229,9 @@ fn rattle_number(word: &str) -> usize {
 }
 
 /// The parameters in C of one in Rattle: a slice is a pointer and a length,
-/// an array behind a reference a struct of as many numbers.
-fn exported(name: &str, kind: &str) -> Vec<Named> {
+/// named by it unless it is the call's only one; an array behind a reference is
+/// a struct of as many numbers.
+fn exported(name: &str, kind: &str, only_slice: bool) -> Vec<Named> {
     let (constant, behind) = match (kind.strip_prefix("&mut "), kind.strip_prefix('&')) {
         (Some(behind), _) => ("", behind),
         (None, Some(behind)) => ("const ", behind),
@@ -238,8 +240,11 @@ fn exported(name: &str, kind: &str) -> Vec<Named> {
     let behind = behind.trim_matches(['[', ']']);
     let Some((each, count)) = behind.split_once("; ") else {
         let slice = format!("{constant}{} *", c_type(behind));
-        let length = (format!("{name}_length"), "size_t".to_string());
-        return vec![(name.to_string(), slice), length];
+        let length = match only_slice {
+            true => "length".to_string(),
+            false => format!("{name}_length"),
+        };
+        return vec![(name.to_string(), slice), (length, c_type("usize"))];
     };
     let all = numbers(&format!("escp_{name}"), "");
     assert_eq!(all.len(), rattle_number(count), "{name}");
@@ -254,9 +259,10 @@ fn rattle_functions() -> Vec<Function> {
         let (name, rest) = rest.split_once('(').unwrap();
         let (list, rest) = rest.split_once(") -> ").unwrap();
         let result = rest.split_whitespace().next().unwrap();
+        let only_slice = list.matches("[u8]").count() == 1;
         let one = |one: &str| {
             let (name, kind) = named(one).unwrap();
-            exported(name, kind)
+            exported(name, kind, only_slice)
         };
         (name.to_string(), parameters(list, one), c_type(result))
     });
@@ -265,7 +271,7 @@ fn rattle_functions() -> Vec<Function> {
 
 #[test]
 fn functions_are_those_exported() {
-    assert_eq!(c_functions().len(), 2);
+    assert_eq!(c_functions().len(), 3);
     assert_eq!(rust_functions(), c_functions());
     assert_eq!(rattle_functions(), c_functions());
 }
@@ -305,12 +311,14 @@ fn mark(letters: &[u8; 2]) -> usize {
 
 #[test]
 fn constants_are_those_of_the_header() {
-    let constants: [(&str, usize); 28] = [
+    let constants: [(&str, usize); 30] = [
         ("INPUT_USED", ierbulosc::INPUT_USED.into()),
         ("ALLOWANCE_USED", ierbulosc::ALLOWANCE_USED.into()),
         ("OUTPUT_FULL", ierbulosc::OUTPUT_FULL.into()),
         ("SETTINGS_REFUSED", ierbulosc::SETTINGS_REFUSED.into()),
         ("STATE_REFUSED", ierbulosc::STATE_REFUSED.into()),
+        ("ANSWERED", ierbulosc::ANSWERED.into()),
+        ("LENGTH_REFUSED", ierbulosc::LENGTH_REFUSED.into()),
         ("RECORD_SIZE", ierbulosc::RECORD_SIZE),
         ("ROOM", ierbulosc::ROOM),
         ("REGISTERS", ierbulosc::REGISTERS),

@@ -1,5 +1,7 @@
 // The words of the command line, taken one by one: --dots N, --auto-feed, --help. Of two --dots the last holds; after --help, or a word that
-// is none of these, no other counts.
+// is none of these, no other counts. The module `columns` has the words of `under`.
+pub mod columns;
+
 use printer::settings::StartSettings;
 ghost use mathlib.Core.Path.{_≡_};
 ghost use Rattle.command_line.specs.CommandLine.{isDigit, decimalOf, same, noWords, withDots, withFeed, afterOption, afterDots, afterWord, choiceOf};

@@ -33,7 +33,7 @@ unfolding hexDigits
 digits-append [] m = refl
 digits-append (b ∷ l) m = rw (digits-append l m)
 
-digits-length : (l : List ℕ) → length (hexDigits l) ≡ 2 * length l
+pub digits-length : (l : List ℕ) → length (hexDigits l) ≡ 2 * length l
 unfolding hexDigits
 digits-length [] = refl
 digits-length (b ∷ l) = omega (arith, digits-length l)
@@ -79,7 +79,7 @@ lines-length zero l h = refl
 lines-length (suc n) l h =
     simp length-append (omega (arith, line-length (take recordSize l) (length-take-le recordSize l (omega arith)), lines-length n (drop recordSize l) (simp length-drop (omega arith))))
 
-lines-more : (n : ℕ) (l : List ℕ) → hexLines (suc n) l ≡ hexLines n l ++ hexLine (take recordSize (drop (recordSize * n) l))
+pub lines-more : (n : ℕ) (l : List ℕ) → hexLines (suc n) l ≡ hexLines n l ++ hexLine (take recordSize (drop (recordSize * n) l))
 unfolding hexLines
 lines-more zero l = append-nil _
 lines-more (suc n) l =

@@ -1,10 +1,11 @@
-// Records as text: for each a line of lower-case hex digits.
+// Records as text: for each a line of lower-case hex digits; and such a line read back.
 use printer::records::Record;
 ghost use mathlib.Core.Path.{_≡_};
 ghost use Prim.Native.Nat.{_*_, _<_, min};
 ghost use lib.ListN.{length};
 ghost use Rattle.printer.specs.Records.{recordSize};
 ghost use Rattle.hex.specs.HexLines.{hexDigit, hexLine, lineSize, countOf, textOf};
+ghost use Rattle.hex.specs.RecordLine.{digitValue, noRecord, recordOf};
 
 // The bytes of a line: two digits a byte, and a newline.
 pub const LINE: usize = 2 * Record::SIZE + 1;
@@ -54,4 +55,57 @@ pub fn lines(records: &[u8], out: &mut [u8]) -> usize
         i += 1;
     }
     LINE * count
+}
+
+// A line read back: whether it is a record's, and its bytes, or zeros if it is none.
+pub struct RecordLine {
+    pub whole: bool,
+    pub bytes: [u8; Record::SIZE],
+}
+
+// The value of a hex digit of either case, or 16.
+fn value(b: u8) -> u8
+    ensures { λ r. ⌜ r ≡ digitValue b ⌝ }
+{
+    if (b'0' <= b) & (b <= b'9') {
+        return b - b'0';
+    }
+    if (b'a' <= b) & (b <= b'f') {
+        return b - b'a' + 10;
+    }
+    if (b'A' <= b) & (b <= b'F') {
+        return b - b'A' + 10;
+    }
+    16
+}
+
+fn no_record() -> RecordLine
+    ensures { λ r. ⌜ r ≡ noRecord ⌝ }
+{
+    let bytes = [0u8; Record::SIZE];
+    RecordLine {
+        whole: false,
+        bytes,
+    }
+}
+
+// The record whose line this is, without the newline.
+pub fn record_of(line: &[u8]) -> RecordLine
+    ensures { λ r. ⌜ r ≡ recordOf (now (line .entry)) ⌝ }
+{
+    if line.len() != 2 * Record::SIZE {
+        return no_record();
+    }
+    let mut bytes = [0u8; Record::SIZE];
+    let mut k = 0;
+    while k < Record::SIZE {
+        let high = value(line[2 * k]);
+        let low = value(line[2 * k + 1]);
+        if (15 < high) | (15 < low) {
+            return no_record();
+        }
+        bytes[k] = 16 * high + low;
+        k += 1;
+    }
+    RecordLine { whole: true, bytes }
 }

@@ -9,6 +9,7 @@ use Rattle.printer.specs.Calls.{Run, numberOf, reportOf, startOf}
 use Rattle.printer.specs.declared.settings.StartSettings.{StartSettings}
 use Rattle.registers.specs.State.{registersOf}
 use Rattle.interpreter.specs.Calls.{runIn, leftIn, outputIn}
+use Rattle.slot.specs.Slot as slot
 
 -- the settings by their numbers: any but 0 switches automatic line feed on
 abbrev pub settingsIn : List ℕ → StartSettings
@@ -31,3 +32,8 @@ pub record EscpReadPromise
   pub state : left ≡ leftIn m input allowance (length out)
   pub counts : counted ≡ countsOf (runIn m input allowance (length out))
   pub output : after ≡ outputIn m input allowance out
+
+-- escp_slot, of the records, the columns asked for, its answer's number, and where the part begins and how long it is
+pub record EscpSlotPromise (records : List ℕ) (a b : ℕ) (number : ℕ) (told : List ℕ) : Type 0 where
+  pub answer : number ≡ slot.numberOf (slot.partOf a b records .answer)
+  pub part : told ≡ slot.partOf a b records .start ∷ slot.partOf a b records .length ∷ []

@@ -2,13 +2,16 @@
 use printer::settings::StartSettings;
 use registers::COUNT;
 ghost use mathlib.Core.Path.{_≡_};
-ghost use Rattle.ierbulosc.specs.Calls.{settingsIn, EscpStartPromise, EscpReadPromise};
+ghost use Rattle.ierbulosc.specs.Calls.{settingsIn, EscpStartPromise, EscpReadPromise, EscpSlotPromise};
 
 // How many numbers a start's settings are: the fields of `escp_settings`, in their order.
 pub const SETTINGS: usize = 2;
 
 // How many numbers a reading call counts: the bytes read, and the bytes written.
 pub const COUNTS: usize = 2;
+
+// How many numbers say which part of a list: where it begins, and its length.
+pub const PART: usize = 2;
 
 // The settings by their numbers: any but 0 switches automatic line feed on.
 fn settings_in(given: &[u32; SETTINGS]) -> StartSettings
@@ -44,5 +47,16 @@ pub extern "C" fn escp_read(
     let report = interpreter::read(state, input, allowance, out);
     let answer = report.answer;
     *counts = [report.read, report.written];
+    answer.number()
+}
+
+// Finds the record that stands under the columns from one to another.
+#[no_mangle]
+pub extern "C" fn escp_slot(records: &[u8], from: u16, to: u16, part: &mut [usize; PART]) -> u8
+    ensures { λ r. ⌜ EscpSlotPromise (now (records .entry)) from to r (now (part .exit)) ⌝ }
+{
+    let found = slot::part_of(records, from, to);
+    let answer = found.answer;
+    *part = [found.start, found.length];
     answer.number()
 }

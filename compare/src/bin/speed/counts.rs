@@ -1,5 +1,6 @@
-//! Instructions for a byte, counted by callgrind: the program runs itself
-//! under it, and callgrind dumps the count after each run of a reader.
+//! Instructions counted by callgrind: the program runs itself under it, and
+//! callgrind dumps the count after each run of a function. Those of the
+//! readers, for a byte.
 
 use crate::readers::{subjects, Reader, Subject, READERS};
 use crate::{tables, Problem};
@@ -45,17 +46,32 @@ fn measured_run(subject: &Subject, reader: Reader, input: &[u8], out: &mut [u8])
 /// The instructions for a byte of each reader on each subject, in the order of
 /// [`run`].
 pub fn count(readers: &[Reader]) -> Result<Vec<f64>, Problem> {
+    let names = readers.iter().map(|reader| reader.name());
+    let arguments: Vec<&str> = ["--runs"].into_iter().chain(names).collect();
+    let subjects = subjects();
+    let runs = subjects.len() * readers.len();
+    let mut counts = counted("measured_run", &arguments, runs)?;
+    for (subject, counts) in subjects.iter().zip(counts.chunks_mut(readers.len())) {
+        let length = subject.bytes(LENGTH).len() as f64;
+        counts.iter_mut().for_each(|count| *count /= length);
+    }
+    Ok(counts)
+}
+
+/// The instructions of each of so many runs of a function, when this program
+/// is called with these arguments.
+pub fn counted(function: &str, arguments: &[&str], runs: usize) -> Result<Vec<f64>, Problem> {
     let folder = Folder::new()?;
     let dump = folder.0.join("count");
     let program = std::env::current_exe().map_err(|error| error.to_string())?;
     let mut valgrind = Command::new("valgrind");
     valgrind
         .args(["--tool=callgrind", "--collect-atstart=no"])
-        .args(["--toggle-collect=measured_run", "--dump-after=measured_run"])
+        .arg(format!("--toggle-collect={function}"))
+        .arg(format!("--dump-after={function}"))
         .arg(format!("--callgrind-out-file={}", dump.display()))
         .arg(program)
-        .arg("--runs")
-        .args(readers.iter().map(|reader| reader.name()))
+        .args(arguments)
         .stdout(Stdio::null())
         .stderr(Stdio::piped());
     let output = valgrind
@@ -65,16 +81,8 @@ pub fn count(readers: &[Reader]) -> Result<Vec<f64>, Problem> {
         let said = String::from_utf8_lossy(&output.stderr);
         return Err(format!("valgrind fails: {said}"));
     }
-    let mut number = 0;
-    let mut counts = Vec::new();
-    for subject in subjects() {
-        let length = subject.bytes(LENGTH).len() as f64;
-        for _ in readers {
-            number += 1;
-            counts.push(total(&dump.with_extension(number.to_string()))? / length);
-        }
-    }
-    Ok(counts)
+    let dumps = (1..=runs).map(|number| dump.with_extension(number.to_string()));
+    dumps.map(|dump| total(&dump)).collect()
 }
 
 /// The instructions that a dump of callgrind tells.

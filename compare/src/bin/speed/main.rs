@@ -1,8 +1,10 @@
 //! Measures the proved reader and both plain ones side by side on equal
-//! inputs: times, instructions, and the proved reader's stack.
+//! inputs: times, instructions, and the proved reader's stack; and what it
+//! costs to ask a list of records what stands in a range of columns.
 
 mod counts;
 mod readers;
+mod slots;
 mod stack;
 mod tables;
 mod times;
@@ -14,14 +16,18 @@ use std::process::ExitCode;
 const HELP: &str = "\
 speed: measures the proved reader, the plain one byte by byte, and the plain one in runs
 
-    speed                  all three below, as Markdown tables
+    speed                  all four below, as Markdown tables
     speed --times          megabytes in a second, best of several alternating runs, and ratios of times
     speed --instructions   instructions for a byte, counted by callgrind, and ratios
-    speed --stack          bytes of stack of a start and of a reading call of the proved reader
+    speed --stack          bytes of stack of the calls of the proved reader
+    speed --slots          instructions and nanoseconds of a call that asks what stands in a range
+                           of columns, by how far it has to look
     speed --watch FILE     fails where the proved reader takes over a tenth more instructions for a
-                           byte than the file's limit
+                           byte, or for such a call, than the file's limit, or where such a call
+                           takes more in a longer list with the answer among the newest ten
     speed --write FILE     writes what it takes now into the file, as the limits
     speed --runs READER..  one run of each reader on each input, to be counted
+    speed --slot-calls     one such call on each list, to be counted
     speed --help           this text
 
 READER is proved, plain or runs.
@@ -47,6 +53,8 @@ fn main() -> ExitCode {
         ["--times"] => times::print(),
         ["--instructions"] => counts::print(),
         ["--stack"] => stack::print(),
+        ["--slots"] => slots::print(),
+        ["--slot-calls"] => slots::run(),
         ["--watch", file] => watch::watch(file),
         ["--write", file] => watch::write(file),
         ["--runs", ref names @ ..] if names.iter().all(|name| Reader::named(name).is_some()) => {
@@ -76,5 +84,7 @@ fn all() -> Result<(), Problem> {
         println!("Instructions are not counted: {problem}.");
     }
     println!();
-    stack::print()
+    stack::print()?;
+    println!();
+    slots::print()
 }

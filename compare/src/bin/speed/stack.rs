@@ -2,10 +2,10 @@
 //! filled with a pattern, and what has changed is looked at.
 
 use crate::readers::{PIECES, RESOLUTIONS};
-use crate::Problem;
+use crate::{slots, Problem};
 use compare::generate;
 use compare::random::Random;
-use ierbulosc::interface::{escp_read, escp_start, Counts};
+use ierbulosc::interface::{escp_read, escp_slot, escp_start, Counts, Part};
 use ierbulosc::{Settings, State, ROOM};
 use std::arch::asm;
 use std::ffi::c_void;
@@ -21,6 +21,7 @@ struct Call<'a> {
     kind: Kind,
     state: State,
     settings: Settings,
+    /// The input, or the list of records.
     input: &'a [u8],
     out: &'a mut [u8],
 }
@@ -30,21 +31,24 @@ enum Kind {
     Nothing,
     Start,
     Read,
+    Slot,
 }
 
 /// Prints the table.
 pub fn print() -> Result<(), Problem> {
-    let (start, read) = measure();
+    let [start, read, slot] = measure();
     println!("| Call of the proved reader | Stack below the caller, bytes |");
     println!("|---|---:|");
     println!("| start | {start} |");
     println!("| reading call, the deepest | {read} |");
+    println!("| what stands in a range of columns, the deepest | {slot} |");
     Ok(())
 }
 
-/// The depth of a start, and of the deepest reading call on inputs of every
-/// command, with pieces of every length that is measured.
-fn measure() -> (usize, usize) {
+/// The depth of a start, of the deepest reading call on inputs of every
+/// command, with pieces of every length that is measured, and of the deepest
+/// question on the lists that are measured.
+fn measure() -> [usize; 3] {
     let mut stack = vec![PATTERN; STACK];
     let mut call = Call {
         kind: Kind::Nothing,
@@ -69,7 +73,8 @@ fn measure() -> (usize, usize) {
             }
         }
     }
-    (start - caller, deepest - caller)
+    let slot = deepest_question(&mut stack);
+    [start, deepest, slot].map(|depth| depth - caller)
 }
 
 /// The depth of the deepest reading call on an input in pieces.
@@ -89,6 +94,23 @@ fn deepest_reading(stack: &mut [u8], settings: &Settings, input: &[u8], piece: u
         state = call.state;
     }
     deepest
+}
+
+/// The depth of the deepest question.
+fn deepest_question(stack: &mut [u8]) -> usize {
+    let lists = slots::lists().into_iter();
+    let depths = lists.map(|list| {
+        let records = list.bytes();
+        let mut call = Call {
+            kind: Kind::Slot,
+            state: State::start(&Settings::default()).1,
+            settings: Settings::default(),
+            input: &records,
+            out: &mut [],
+        };
+        depth(stack, &mut call)
+    });
+    depths.max().unwrap_or(0)
 }
 
 /// How deep a call goes into the stack, in whole words of it.
@@ -126,9 +148,14 @@ extern "C" fn perform(call: *mut c_void) {
             read: 0,
             written: 0,
         };
+        let mut part = Part {
+            offset: 0,
+            length: 0,
+        };
         let answer = match call.kind {
             Kind::Nothing => 0,
             Kind::Start => escp_start(&mut call.state, &call.settings),
+            Kind::Slot => escp_slot(call.input.as_ptr(), call.input.len(), 0, 0, &mut part),
             Kind::Read => escp_read(
                 &mut call.state,
                 call.input.as_ptr(),

@@ -1,23 +1,36 @@
-//! The proved reader's instructions for a byte held to written limits.
+//! The proved reader's instructions held to written limits: for a byte, and for
+//! a call that asks what stands in a range of columns.
 
 use crate::counts::count;
 use crate::readers::{subjects, Reader, Subject};
-use crate::Problem;
+use crate::{slots, Problem};
 use std::fmt::Write;
 
 /// How far above its limit a count may be.
 const TOLERATED: f64 = 1.10;
 
 const HEAD: &str = "\
-# The proved reader's instructions for a byte, as callgrind counts them: input, dots, bytes of a piece, instructions.
+# The proved reader's instructions, as callgrind counts them. For a byte: input, dots, bytes of a piece, instructions. For
+# a call that asks what stands in a range of columns: slot, list, records, instructions.
 # The gate fails where one is exceeded by over a tenth. Written by: compare/watch --write
 ";
+
+/// All that is held to a limit, by name, with its present count.
+fn counts() -> Result<Vec<(String, f64)>, Problem> {
+    let subjects = subjects();
+    let bytes = subjects.iter().map(name).zip(count(&[Reader::Proved])?);
+    let counts = slots::count()?;
+    slots::no_longer_search(&counts)?;
+    let lists = slots::lists();
+    let calls = lists.iter().map(slots::List::name).zip(counts);
+    Ok(bytes.chain(calls).collect())
+}
 
 /// Writes the present counts.
 pub fn write(file: &str) -> Result<(), Problem> {
     let mut text = HEAD.to_string();
-    for (subject, count) in subjects().iter().zip(count(&[Reader::Proved])?) {
-        let _ = writeln!(text, "{} {count:.1}", name(subject));
+    for (name, count) in counts()? {
+        let _ = writeln!(text, "{name} {count:.1}");
     }
     std::fs::write(file, text).map_err(|error| format!("{file}: {error}"))
 }
@@ -25,23 +38,25 @@ pub fn write(file: &str) -> Result<(), Problem> {
 /// Fails where a count is too far above its limit, or has none.
 pub fn watch(file: &str) -> Result<(), Problem> {
     let text = std::fs::read_to_string(file).map_err(|error| format!("{file}: {error}"))?;
-    let counts = count(&[Reader::Proved])?;
+    let counts = counts()?;
     let mut exceeded = String::new();
-    for (subject, count) in subjects().iter().zip(&counts) {
-        let limit = limit(&text, subject)?;
+    for (name, count) in &counts {
+        let limit = limit(&text, name)?;
         if *count > TOLERATED * limit {
-            let name = name(subject);
             let _ = write!(exceeded, "\n  {name}: {count:.1}, the limit is {limit:.1}");
         }
     }
     if !exceeded.is_empty() {
         return Err(format!(
-            "over a tenth more instructions for a byte than the limit of {file} \
-             (input, dots, bytes of a piece):{exceeded}"
+            "over a tenth more instructions than the limit of {file}, for a byte (input, dots, \
+             bytes of a piece) or a call (slot, list, records):{exceeded}"
         ));
     }
-    let total = counts.len();
-    println!("speed: instructions for a byte within a tenth of their limits on all {total} inputs");
+    let (bytes, calls) = (subjects().len(), slots::lists().len());
+    println!(
+        "speed: instructions within a tenth of their limits, for a byte on all {bytes} inputs and \
+         for a slot in all {calls} lists; the answer among the newest ten costs no more in longer ones"
+    );
     Ok(())
 }
 
@@ -49,10 +64,9 @@ fn name(subject: &Subject) -> String {
     format!("{} {} {}", subject.input, subject.dots, subject.piece)
 }
 
-/// The limit of a subject.
-fn limit(text: &str, subject: &Subject) -> Result<f64, Problem> {
-    let name = name(subject);
+/// The limit of this name.
+fn limit(text: &str, name: &str) -> Result<f64, Problem> {
     let mut lines = text.lines();
-    let limit = lines.find_map(|line| line.strip_prefix(&name)?.strip_prefix(' ')?.parse().ok());
+    let limit = lines.find_map(|line| line.strip_prefix(name)?.strip_prefix(' ')?.parse().ok());
     limit.ok_or_else(|| format!("no limit for {name}: compare/watch --write writes them"))
 }

@@ -1,0 +1,4 @@
+pub mod Sights
+pub mod Backward
+pub mod Surviving
+pub mod ByHand
