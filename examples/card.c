@@ -2,7 +2,7 @@
  * Reads ESC/P from standard input in pieces of five bytes and shows the page as it stands at the end: its lines of
  * letters, how many bytes of images are on it, and what stands now in each of a card's seven slots.
  *
- *     card [DOTS] < INPUT     at 300 dots to the inch, or 203
+ *     card [DOTS [WIDTH]] < INPUT     at 300 dots to the inch, or 203, on paper of this width in 1/3600 inch
  */
 #include "escp.h"
 
@@ -72,7 +72,7 @@ static const char *problem_of(uint8_t answer)
     case ESCP_OUTPUT_FULL:
         return "input is left over: the list is full";
     case ESCP_SETTINGS_REFUSED:
-        return "300 or 203 dots to the inch";
+        return "300 or 203 dots to the inch, paper of 7200 to 28800 units";
     case ESCP_STATE_REFUSED:
         return "the state is none that the reader left";
     case ESCP_LENGTH_REFUSED:
@@ -182,6 +182,14 @@ static const char *print_slots(const list *list, const escp_state *state)
     return problem;
 }
 
+/* A word as a number; 0, which no start takes, if it is none. */
+static uint32_t number(const char *word)
+{
+    char *end;
+    unsigned long value = strtoul(word, &end, 10);
+    return *word >= '0' && *word <= '9' && *end == '\0' && value <= UINT32_MAX ? (uint32_t)value : 0;
+}
+
 /* Says what is wrong. */
 static int fail(const char *problem)
 {
@@ -193,14 +201,16 @@ int main(int argc, char **argv)
 {
     static list read;
     static page shown;
-    escp_settings settings = {300, 0};
+    escp_settings settings = {300, 0, 28800};
     escp_state state;
     uint8_t input[PIECE];
     size_t length;
     const char *problem;
 
     if (argc > 1)
-        settings.resolution = (uint32_t)strtoul(argv[1], NULL, 10);
+        settings.resolution = number(argv[1]);
+    if (argc > 2)
+        settings.width = number(argv[2]);
     problem = problem_of(escp_start(&state, &settings));
     while (problem == NULL && (length = fread(input, 1, PIECE, stdin)) > 0)
         problem = take_piece(&read, &state, input, length);

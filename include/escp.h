@@ -6,7 +6,7 @@
  * crates below it. A test (rust/tests/header.rs) holds the declarations here against the exported functions and the
  * registers' layout in Rattle; that the words here say the same as the proofs is for their reader to compare.
  *
- *     escp_settings settings = {300, 0};
+ *     escp_settings settings = {300, 0, 28800};
  *     escp_state state;
  *     escp_counts counts;
  *     escp_part part;
@@ -39,7 +39,7 @@ enum {
     ESCP_INPUT_USED = 0,       /* all of the input was read; a start: done */
     ESCP_ALLOWANCE_USED = 1,   /* as many bytes as allowed were read, and input is left */
     ESCP_OUTPUT_FULL = 2,      /* under ESCP_ROOM bytes of output are left, and input and allowance are left */
-    ESCP_SETTINGS_REFUSED = 3, /* a start: the resolution is neither 300 nor 203 */
+    ESCP_SETTINGS_REFUSED = 3, /* a start: the resolution or the width is none that is taken */
     ESCP_STATE_REFUSED = 4     /* the state's numbers are not as given below */
 };
 
@@ -47,19 +47,20 @@ enum {
 enum {
     ESCP_RECORD_SIZE = 14,            /* the bytes of a record */
     ESCP_ROOM = 2 * ESCP_RECORD_SIZE, /* must be left in the output to read a byte, which writes at most 2 records */
-    ESCP_REGISTERS = 137,             /* the numbers of a state */
+    ESCP_REGISTERS = 138,             /* the numbers of a state */
     ESCP_TAB_STOPS = 32,              /* the room of a list of tab stops */
     ESCP_COLUMNS = 32,                /* the most horizontal tab stops */
     ESCP_LINES = 16                   /* the most vertical tab stops */
 };
 
 /*
- * What a start is asked for. Any numbers whatever may be passed. (A struct, so that a setting can be added without
- * another call: it is then appended, 0 means that it is as before, and callers are compiled anew.)
+ * What a start is asked for. Any numbers whatever may be passed; those that it does not take are refused. (A struct, so
+ * that a setting can be added without another call: it is then appended, and callers set it and are compiled anew.)
  */
 typedef struct escp_settings {
     uint32_t resolution; /* dots to the inch: 300, or 203 (203 across and 200 down) */
     uint32_t auto_feed;  /* any number but 0: CR feeds a line */
+    uint32_t width;      /* of the paper, in units of 1/3600 inch: 7200 to 28800 (80 columns at 10 cpi) */
 } escp_settings;
 
 /*
@@ -109,7 +110,7 @@ typedef struct escp_state {
 
     /* Margins, page length, perforation skip and line amount. */
     uint32_t left;  /* below right */
-    uint32_t right; /* at most 28800 */
+    uint32_t right; /* at most paper_width */
     uint32_t page;  /* 3600 to 79200 */
     uint32_t skip;  /* at most page - 3600 */
     uint32_t line;  /* at most 5100 */
@@ -118,6 +119,7 @@ typedef struct escp_state {
     uint32_t dots_across; /* dots to the inch across: 300 or 203 */
     uint32_t dots_down;   /* down, by dots_across: 300 or 200 */
     uint32_t auto_feed;   /* flag: CR feeds a line */
+    uint32_t paper_width; /* 7200 to 28800 */
 
     /* What the width of a letter depends on. */
     uint32_t pitch;        /* letters of an inch: 10, 12 or 15 */
@@ -171,7 +173,8 @@ typedef struct escp_counts {
  * *state and *settings overlap.
  *
  * 0: *state is the power-on state of these settings.
- * 3: the resolution is neither 300 nor 203; *state is the power-on state for 300 dots, automatic line feed off.
+ * 3: the resolution is neither 300 nor 203, or the width is not from 7200 to 28800; *state is the power-on state for 300 dots,
+ *    automatic line feed off, a width of 28800.
  */
 uint8_t escp_start(escp_state *state, const escp_settings *settings);
 

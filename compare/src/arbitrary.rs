@@ -8,7 +8,7 @@ use crate::hold::Case;
 use crate::random::Random;
 use crate::registers::{follows, gathers, registers, unseen_stops};
 use crate::states::{self, ONE_ARGUMENT, TWO_ARGUMENTS};
-use crate::WIDTH;
+use crate::WIDEST;
 use ierbulosc::State as Registers;
 
 /// Registers of any sort, and one to three reading calls on them.
@@ -90,10 +90,10 @@ fn change(random: &mut Random, state: &mut Registers) {
     *fields[at].number = some_number(random, &fields[at]);
 }
 
-/// Numbers beside which a bound lies, but for the paper's width.
-const LIMITS: [u32; 22] = [
-    3, 4, 5, 6, 13, 14, 16, 17, 32, 33, 64, 127, 128, 255, 256, 3_599, 3_600, 5_100, 5_101, 79_199,
-    79_200, 79_201,
+/// Numbers beside which a bound lies, but for the widest paper.
+const LIMITS: [u32; 24] = [
+    3, 4, 5, 6, 13, 14, 16, 17, 32, 33, 64, 127, 128, 255, 256, 3_599, 3_600, 5_100, 5_101, 7_199,
+    7_200, 79_199, 79_200, 79_201,
 ];
 
 /// A number beside the register's own, a small one, a great one or any; or its
@@ -110,7 +110,7 @@ fn some_number(random: &mut Random, field: &Field) -> u32 {
         6 => own.wrapping_add(random.pick(&[1 << 8, 1 << 16, 1 << 24, 1 << 31])),
         7 => random.byte().into(),
         8 => match random.below(11) {
-            0 => (WIDTH + random.below(2)) as u32,
+            0 => WIDEST + random.below(2) as u32,
             _ => random.pick(&LIMITS),
         },
         _ => random.number() as u32,

@@ -3,6 +3,7 @@
 
 use crate::generate::phrase;
 use crate::random::Random;
+use crate::{NARROWEST, WIDEST};
 use ierbulosc::{Settings, RECORD_SIZE, ROOM};
 use plain_reader::{read, Report, State};
 
@@ -34,6 +35,7 @@ pub const FILL: u8 = 0xE5;
 pub const REFUSED: Settings = Settings {
     resolution: 0,
     auto_feed: 0,
+    width: 0,
 };
 
 /// An output length with room to read so many bytes, and one more.
@@ -43,7 +45,7 @@ pub fn room_for(length: usize) -> usize {
 
 /// The plain reader's start.
 pub fn start(settings: &Settings) -> (u8, State) {
-    plain_reader::start(settings.resolution, settings.auto_feed != 0)
+    plain_reader::start(settings.resolution, settings.auto_feed != 0, settings.width)
 }
 
 /// The plain reader's outcomes, from the state that a refused start gives.
@@ -130,7 +132,22 @@ fn a_start(random: &mut Random) -> Call {
     Call::Start(Settings {
         resolution,
         auto_feed,
+        width: a_width(random),
     })
+}
+
+/// Widths at and beside the limits, and one short of a column more than the
+/// narrowest has.
+const TELLING_WIDTHS: [u32; 7] = [7_199, 7_200, 7_201, 7_559, 28_799, 28_800, 28_801];
+
+/// A width for a start, mostly one that it takes.
+fn a_width(random: &mut Random) -> u32 {
+    match random.below(16) {
+        0..=2 => random.pick(&TELLING_WIDTHS),
+        3..=6 => random.between(NARROWEST.into(), WIDEST.into()) as u32,
+        7 => random.pick(&[0, 1, 65_536 + 7_200, 1 << 31, u32::MAX]),
+        _ => WIDEST,
+    }
 }
 
 /// A reading call of what is unread and some new phrases, or of a beginning of

@@ -10,9 +10,9 @@ const PLAIN_ESCAPES: &[u8] = b"022OPPMMggEFGH4455T6677\x0E\x0F\x0E\x0F";
 const ONE_ARGUMENT: &[u8] = b"33A++JJJNNllQQpSxWWw-%tRqk  !!";
 
 /// Numbers beside which a rule changes, for any one-byte argument.
-const EDGES: [u8; 24] = [
-    0, 1, 2, 3, 4, 5, 6, 12, 13, 14, 0x30, 0x31, 0x32, 0x40, 0x41, 79, 80, 84, 85, 86, 126, 127,
-    128, 255,
+const EDGES: [u8; 26] = [
+    0, 1, 2, 3, 4, 5, 6, 12, 13, 14, 20, 21, 0x30, 0x31, 0x32, 0x40, 0x41, 79, 80, 84, 85, 86, 126,
+    127, 128, 255,
 ];
 
 /// Line amounts and numbers of lines whose products are 79,180, 79,200,

@@ -23,5 +23,6 @@ pub mod states;
 pub mod tell;
 pub mod text;
 
-/// The paper's width, in units.
-pub const WIDTH: u64 = 28_800;
+/// The width of the narrowest and of the widest paper, in units.
+pub const NARROWEST: u32 = 7_200;
+pub const WIDEST: u32 = 28_800;

@@ -310,8 +310,13 @@ impl Reckoning {
     }
 
     fn initialize(&mut self) {
-        let kept = (self.settings.dots, self.settings.auto_feed);
-        self.settings = Settings::power_on(kept.0, kept.1);
+        let Settings {
+            dots,
+            auto_feed,
+            paper,
+            ..
+        } = self.settings;
+        self.settings = Settings::power_on(dots, auto_feed, paper);
         self.across.set(0);
         self.down.set(0);
     }

@@ -17,6 +17,7 @@ pub fn plain(registers: &Registers) -> Option<State> {
     Some(State {
         resolution: r.dots_across,
         automatic_line_feed: flag(r.auto_feed)?,
+        paper_width: r.paper_width,
         draft: flag(r.draft)?,
         upper_codes_print: flag(r.upper_prints)?,
         pitch: byte(r.pitch)?,
@@ -120,6 +121,7 @@ pub fn registers(state: &State, thirty: u8) -> Option<Registers> {
         line: state.line_amount,
         dots_across: state.resolution,
         auto_feed: state.automatic_line_feed.into(),
+        paper_width: state.paper_width,
         pitch: state.pitch.into(),
         spacing: state.spacing.into(),
         wide: state.double_width.into(),

@@ -1,7 +1,6 @@
 //! The settings in force, kept from the starts and the commands done.
 
 use crate::received::List;
-use crate::WIDTH;
 
 const BOLD: u16 = 1;
 const DOUBLE_STRIKE: u16 = 1 << 1;
@@ -22,6 +21,8 @@ pub struct Settings {
     /// Dots per inch, across and down.
     pub dots: (i64, i64),
     pub auto_feed: bool,
+    /// The width of the paper.
+    pub paper: i64,
     pub left: i64,
     pub right: i64,
     pub page: i64,
@@ -44,12 +45,13 @@ pub struct Settings {
 }
 
 impl Settings {
-    pub fn power_on(dots: (i64, i64), auto_feed: bool) -> Settings {
+    pub fn power_on(dots: (i64, i64), auto_feed: bool, paper: i64) -> Settings {
         Settings {
             dots,
             auto_feed,
+            paper,
             left: 0,
-            right: WIDTH as i64,
+            right: paper,
             page: 39_600,
             skip: 0,
             line: 600,
@@ -70,10 +72,11 @@ impl Settings {
     /// The settings of a start, accepted or refused.
     pub fn of_start(asked: &ierbulosc::Settings) -> Settings {
         let auto_feed = asked.auto_feed != 0;
-        match asked.resolution {
-            300 => Settings::power_on((300, 300), auto_feed),
-            203 => Settings::power_on((203, 200), auto_feed),
-            _ => Settings::power_on((300, 300), false),
+        let paper = i64::from(asked.width);
+        match (asked.resolution, paper) {
+            (300, 7_200..=28_800) => Settings::power_on((300, 300), auto_feed, paper),
+            (203, 7_200..=28_800) => Settings::power_on((203, 200), auto_feed, paper),
+            _ => Settings::power_on((300, 300), false, 28_800),
         }
     }
 

@@ -1,6 +1,7 @@
 //! A shorter list of calls that still fails.
 
 use crate::calls::{room_for, Call};
+use crate::WIDEST;
 use ierbulosc::Settings;
 
 struct Search<'a> {
@@ -143,6 +144,10 @@ fn simpler(call: &Call) -> Vec<Call> {
             }),
             Call::Start(Settings {
                 auto_feed: 0,
+                ..*settings
+            }),
+            Call::Start(Settings {
+                width: WIDEST,
                 ..*settings
             }),
         ],

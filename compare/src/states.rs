@@ -4,7 +4,7 @@
 use crate::calls::room_for;
 use crate::generate;
 use crate::random::Random;
-use crate::WIDTH;
+use crate::{NARROWEST, WIDEST};
 use plain_reader::{read, start, State, Stops, Waiting};
 
 const LONGEST: u64 = 79_200;
@@ -52,7 +52,7 @@ pub fn more_arguments(command: u8, given: u8, first: u8) -> bool {
 /// A state that the plain reader reaches on a generated input.
 pub fn reached(random: &mut Random) -> State {
     let dots = random.pick(&[300, 203]);
-    let (_, mut state) = start(dots, random.flag());
+    let (_, mut state) = start(dots, random.flag(), a_width(random));
     let phrases = random.below(30);
     let input = generate::input(random, phrases);
     let cut = random.between(input.len() as u64 / 2, input.len() as u64);
@@ -61,11 +61,20 @@ pub fn reached(random: &mut Random) -> State {
     state
 }
 
+/// A width of paper: the widest, or another.
+fn a_width(random: &mut Random) -> u32 {
+    match random.flag() {
+        true => WIDEST,
+        false => between(random, NARROWEST, WIDEST),
+    }
+}
+
 /// A state inside the bounds, which no input need reach.
 pub fn inside(random: &mut Random) -> State {
-    let (_, mut state) = start(random.pick(&[300, 203]), random.flag());
-    state.left = random.below(WIDTH) as u32;
-    state.right = random.between(u64::from(state.left) + 1, WIDTH) as u32;
+    let width = a_width(random);
+    let (_, mut state) = start(random.pick(&[300, 203]), random.flag(), width);
+    state.left = random.below(width.into()) as u32;
+    state.right = between(random, state.left + 1, width);
     state.across = between(random, state.left, state.right);
     state.page_length = between(random, 3_600, LONGEST as u32);
     state.skip = match random.below(3) {
@@ -158,12 +167,12 @@ fn near(random: &mut Random, lowest: u32, highest: u32) -> u32 {
 /// Sets one field, or one group of fields, to some value.
 pub fn change(random: &mut Random, state: &mut State) {
     let edge = state.page_length.saturating_sub(state.skip);
-    match random.below(25) {
+    match random.below(26) {
         0 => state.resolution = random.pick(&[300, 203, 200, 0, 299, 204, 65_836]),
         1 => state.across = near(random, state.left, state.right),
         2 => state.down = near(random, 0, edge.saturating_sub(1)),
         3 => state.left = near(random, 0, state.across),
-        4 => state.right = near(random, state.across.max(1), WIDTH as u32),
+        4 => state.right = near(random, state.across.max(1), state.paper_width),
         5 => state.left = near(random, 0, state.right.saturating_sub(1)),
         6 => state.page_length = near(random, 3_600, LONGEST as u32),
         7 => state.skip = near(random, 0, state.page_length.saturating_sub(3_600)),
@@ -183,8 +192,19 @@ pub fn change(random: &mut Random, state: &mut State) {
         21 => await_list(random, state),
         22 => await_image(random, state),
         23 => state.waiting = random.pick(&INSIDE_ESCAPES),
+        24 => change_width(random, state),
         _ => state.waiting = Waiting::Nothing,
     }
+}
+
+/// Sets the width of the paper at or beside its bounds, or the right margin.
+fn change_width(random: &mut Random, state: &mut State) {
+    state.paper_width = match random.below(5) {
+        0 => state.right.wrapping_sub(1),
+        1 => state.right,
+        2 => state.right.wrapping_add(1),
+        _ => near(random, NARROWEST, WIDEST),
+    };
 }
 
 fn toggle(random: &mut Random, state: &mut State) {

@@ -3,7 +3,8 @@
 //!
 //! ```text
 //! start DOTS on|off|NUMBER    a start, with or without automatic line feed, or
-//!                             with this number that says so
+//!                             with this number that says so, on the widest
+//! start .. WIDTH              paper, or with this number that says another
 //! state                       from the power-on state of 300 dots,
 //! set REGISTER NUMBER         but with this register so
 //! read ALLOWANCE ROOM HEX..   a reading call: allowance, output length, input
@@ -12,6 +13,7 @@
 use crate::calls::Call;
 use crate::fields;
 use crate::hold::Case;
+use crate::WIDEST;
 use ierbulosc::{Settings, State as Registers};
 use std::fmt::Write;
 
@@ -40,7 +42,11 @@ fn call_text(call: &Call) -> String {
                 1 => "on".to_string(),
                 number => number.to_string(),
             };
-            format!("start {} {feed}", settings.resolution)
+            let start = format!("start {} {feed}", settings.resolution);
+            match settings.width {
+                WIDEST => start,
+                width => format!("{start} {width}"),
+            }
         }
         Call::Read {
             input,
@@ -77,14 +83,10 @@ fn take_line(case: &mut Case, line: &str) -> Option<()> {
         ["set", name, number] if case.calls.is_empty() => {
             fields::set(case.state.as_mut()?, name, number.parse().ok()?)?;
         }
-        ["start", dots, feed] => case.calls.push(Call::Start(Settings {
-            resolution: dots.parse().ok()?,
-            auto_feed: match feed {
-                "on" => 1,
-                "off" => 0,
-                number => number.parse().ok()?,
-            },
-        })),
+        ["start", dots, feed] => case.calls.push(a_start(dots, feed, WIDEST)?),
+        ["start", dots, feed, width] => {
+            case.calls.push(a_start(dots, feed, width.parse().ok()?)?);
+        }
         ["read", allowance, room, ref bytes @ ..] => case.calls.push(Call::Read {
             input: bytes.iter().map(|byte| hex(byte)).collect::<Option<_>>()?,
             allowance: allowance.parse().ok()?,
@@ -93,6 +95,18 @@ fn take_line(case: &mut Case, line: &str) -> Option<()> {
         _ => return None,
     }
     Some(())
+}
+
+fn a_start(dots: &str, feed: &str, width: u32) -> Option<Call> {
+    Some(Call::Start(Settings {
+        resolution: dots.parse().ok()?,
+        auto_feed: match feed {
+            "on" => 1,
+            "off" => 0,
+            number => number.parse().ok()?,
+        },
+        width,
+    }))
 }
 
 fn hex(byte: &str) -> Option<u8> {

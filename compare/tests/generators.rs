@@ -176,7 +176,7 @@ fn each_register_is_wrong_alone() {
         if accepted(&state) {
             continue;
         }
-        for (at, such) in such.iter_mut().enumerate().take(39) {
+        for (at, such) in such.iter_mut().enumerate().take(40) {
             let mut mended = state.registers();
             mended[at] = power_on.registers()[at];
             let mended = follows(&Registers::from_registers(mended));
@@ -188,7 +188,7 @@ fn each_register_is_wrong_alone() {
     let names = fields::fields(&mut state)
         .into_iter()
         .map(|field| field.name);
-    for (name, such) in names.zip(such).take(39) {
+    for (name, such) in names.zip(such).take(40) {
         println!("{name}: {such}");
         assert!(such > 20, "{name}: {such}");
     }
@@ -252,7 +252,7 @@ fn esc_i_is_cut_after_each_byte() {
 fn telling_bytes_come_inside_esc_i() {
     let input = generate::input(&mut Random::new(10), 100_000);
     let mut inside = [BTreeSet::new(), BTreeSet::new()];
-    let (_, mut state) = start(300, false);
+    let (_, mut state) = start(300, false, 28_800);
     for byte in input {
         match state.waiting {
             Waiting::ThirdByte => inside[0].insert(byte),
@@ -303,6 +303,49 @@ fn right_and_wrong_places_of_esc_i_occur() {
     assert!((0..=6).all(|kind| kinds.contains(&kind)), "{kinds:?}");
 }
 
+/// Starts on paper of widths at and beside the limits, and of many others.
+#[test]
+fn telling_widths_occur() {
+    let mut starts = BTreeMap::new();
+    for seed in 0..2_000 {
+        for call in calls(&mut Random::new(seed)) {
+            if let Call::Start(settings) = call {
+                *starts.entry(settings.width).or_insert(0) += 1;
+            }
+        }
+    }
+    for width in [0, 7_199, 7_200, 7_201, 7_559, 28_799, 28_800, 28_801] {
+        let such = starts.get(&width);
+        println!("{width}: {such:?}");
+        assert!(such > Some(&30), "{width}: {such:?}");
+    }
+    let between = starts
+        .keys()
+        .filter(|width| (7_202..28_799).contains(*width));
+    assert!(between.count() > 300);
+}
+
+/// Registers whose right margin is one short of the paper's width, at it or one
+/// past it, and nothing else wrong.
+#[test]
+fn right_margins_beside_the_width_occur() {
+    let mut random = Random::new(14);
+    let mut such = [0; 3];
+    for _ in 0..100_000 {
+        let state = arbitrary::arbitrary(&mut random);
+        let mended = Registers {
+            right: state.right.min(state.paper_width),
+            ..state
+        };
+        let past = state.right.wrapping_add(1).wrapping_sub(state.paper_width);
+        if let Some(such) = such.get_mut(past as usize).filter(|_| accepted(&mended)) {
+            *such += 1;
+        }
+    }
+    println!("{such:?}");
+    assert!(such.iter().all(|&such| such > 50), "{such:?}");
+}
+
 /// Parts that no rule looks at make no difference to what is read.
 #[test]
 fn unseen_parts_make_no_difference() {
@@ -346,6 +389,8 @@ fn shrinking_keeps_what_fails() {
 #[test]
 fn starts_are_accepted_states() {
     for dots in [300, 203, 0] {
-        assert!(start(dots, true).1.accepted());
+        for width in [0, 7_199, 7_200, 7_559, 28_800, 28_801] {
+            assert!(start(dots, true, width).1.accepted());
+        }
     }
 }

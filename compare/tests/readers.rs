@@ -70,9 +70,9 @@ fn a_case_from_text() {
 /// Numbers at, beside and far from every bound, and the own one with more
 /// above its low bits.
 fn numbers(own: u32) -> impl Iterator<Item = u32> {
-    const LIMITS: [u32; 29] = [
+    const LIMITS: [u32; 31] = [
         0, 1, 2, 3, 4, 5, 6, 10, 11, 12, 13, 14, 15, 16, 17, 32, 33, 64, 65, 127, 128, 200, 203,
-        255, 256, 300, 3_600, 5_100, 5_101,
+        255, 256, 300, 3_600, 5_100, 5_101, 7_199, 7_200,
     ];
     const FAR: [u32; 8] = [
         28_800,

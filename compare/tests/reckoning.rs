@@ -55,6 +55,7 @@ fn a_refused_start_begins_anew() {
         Call::Start(Settings {
             resolution,
             auto_feed: 1,
+            ..Settings::default()
         })
     };
     let list = [start(203), reading(b"AB\x1B"), start(204), reading(b"CD")];
@@ -64,6 +65,40 @@ fn a_refused_start_begins_anew() {
     assert_eq!(columns, [0, 20, 0, 30]);
     assert!(due.iter().map(|printed| &printed.record).eq(&records));
     assert_eq!(due[1].across, 360);
+}
+
+/// The width of a start is the right margin, after ESC @ too, until the next.
+#[test]
+fn the_width_is_kept_until_the_next_start() {
+    let start = |width| {
+        Call::Start(Settings {
+            width,
+            ..Settings::default()
+        })
+    };
+    let reading = || Call::Read {
+        input: [b"\x1BQ\x05\x1B@", &[b'A'; 22][..]].concat(),
+        allowance: 100,
+        room: 1_000,
+    };
+    let list = [
+        start(7_200),
+        reading(),
+        start(7_199),
+        reading(),
+        start(7_560),
+        reading(),
+    ];
+    let (records, reads) = placed(&list);
+    let due = expected(&list, &reads);
+    assert!(due.iter().map(|printed| &printed.record).eq(&records));
+    let lines = due.iter().map(|printed| printed.down / 600);
+    let first_line: Vec<usize> = lines
+        .collect::<Vec<_>>()
+        .chunks(22)
+        .map(|lines| lines.iter().filter(|&&line| line == 0).count())
+        .collect();
+    assert_eq!(first_line, [20, 22, 21]);
 }
 
 /// Done or passed over, ESC i is used up to its end and leaves the place.

@@ -8,7 +8,7 @@ use ierbulosc::{State as Registers, REGISTERS, ROOM};
 use plain_reader::{read, start, Waiting};
 
 fn power_on() -> Registers {
-    registers(&start(300, false).1, b'L').unwrap()
+    registers(&start(300, false, 28_800).1, b'L').unwrap()
 }
 
 fn names() -> Vec<String> {
@@ -32,8 +32,9 @@ fn power_on_is_the_librarys() {
         let settings = ierbulosc::Settings {
             resolution,
             auto_feed: 1,
+            width: 7_559,
         };
-        let (_, state) = start(resolution, true);
+        let (_, state) = start(resolution, true, 7_559);
         let (_, proved) = Registers::start(&settings);
         assert_eq!(registers(&state, 0), Some(proved));
         assert_eq!(plain(&proved), Some(state));
@@ -92,6 +93,8 @@ fn numbers_that_stand_for_no_plain_state() {
     }
     for (name, number) in [
         ("dots_across", 204),
+        ("paper_width", 28_799),
+        ("paper_width", 28_801),
         ("pitch", 11),
         ("columns.stops[8]", 256),
     ] {
@@ -189,7 +192,7 @@ fn the_places_of_esc_i() {
     }
     assert_eq!(such, [(2, 0), (3, b'a'.into())]);
     let plain = |input: &[u8]| {
-        let (_, mut state) = start(300, false);
+        let (_, mut state) = start(300, false, 28_800);
         read(&mut state, input, usize::MAX, &mut [0; 4 * ROOM]);
         let state = registers(&state, 0).unwrap();
         (state.kind, state.command, state.argument)
@@ -203,7 +206,7 @@ fn the_places_of_esc_i() {
 
 #[test]
 fn image_commands_are_followed() {
-    let (_, state) = start(300, false);
+    let (_, state) = start(300, false, 28_800);
     assert_eq!(image_command(&state, 0, b"\x1BY\x02\x00L"), b'Y');
     assert_eq!(
         image_command(&state, 0, b"\x1BY\x01\x00A\x1BL\x01\x00"),

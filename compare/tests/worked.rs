@@ -8,7 +8,7 @@ const INPUT: &[u8] = include_bytes!("../../crates/worked/stdin");
 const EXPECTED: &str = include_str!("../../crates/worked/stdout");
 
 /// The bytes before a case's input.
-const HEAD: usize = 9;
+const HEAD: usize = 11;
 
 /// What a reading call came back with: answer, bytes read and bytes written.
 type Numbers = (u8, usize, usize);
@@ -32,7 +32,8 @@ fn cases() -> Vec<Case<'static>> {
         cases.push(Case {
             settings: Settings {
                 resolution: two(0).into(),
-                auto_feed: head[8].into(),
+                auto_feed: head[10].into(),
+                width: two(8).into(),
             },
             allowance: two(2).into(),
             room: two(4).into(),
@@ -92,8 +93,9 @@ fn plain(
     let Settings {
         resolution,
         auto_feed,
+        width,
     } = case.settings;
-    let start = plain_reader::start(resolution, auto_feed != 0);
+    let start = plain_reader::start(resolution, auto_feed != 0, width);
     lines(case, most, start, |state, input, allowance, out| {
         let report = read(state, input, allowance, out);
         (report.answer, report.read, report.written)

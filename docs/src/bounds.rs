@@ -2,7 +2,7 @@
 
 use crate::state::{
     State, Stops, Waiting, LARGEST_LINE, LARGEST_SPACING, LONGEST_PAGE, MOST_HORIZONTAL_STOPS,
-    MOST_VERTICAL_STOPS, PAPER_WIDTH, SHORTEST_PAGE,
+    MOST_VERTICAL_STOPS, NARROWEST_PAPER, SHORTEST_PAGE, WIDEST_PAPER,
 };
 
 const HIGHEST_COLUMN: u32 = 255;
@@ -35,7 +35,7 @@ impl State {
 
     fn places_in_bounds(&self) -> bool {
         let across = self.left < self.right
-            && self.right <= PAPER_WIDTH
+            && self.right <= self.paper_width
             && (self.left..=self.right).contains(&self.across);
         let page = (SHORTEST_PAGE..=LONGEST_PAGE).contains(&self.page_length);
         let down = self
@@ -47,6 +47,7 @@ impl State {
 
     fn settings_in_bounds(&self) -> bool {
         matches!(self.resolution, 300 | 203)
+            && (NARROWEST_PAPER..=WIDEST_PAPER).contains(&self.paper_width)
             && matches!(self.pitch, 10 | 12 | 15)
             && self.line_amount <= LARGEST_LINE
             && self.spacing <= LARGEST_SPACING

@@ -21,6 +21,7 @@ pub use state::{State, Stops, Waiting};
 
 use reading::Reading;
 use records::RECORD_SIZE;
+use state::{NARROWEST_PAPER, WIDEST_PAPER};
 
 /// The input is used up, or a start is accepted.
 pub const INPUT_USED: u8 = 0;
@@ -29,7 +30,8 @@ pub const ALLOWANCE_USED: u8 = 1;
 /// Under [`ROOM_FOR_A_BYTE`] output bytes are left, with input and allowance
 /// left.
 pub const OUTPUT_FULL: u8 = 2;
-/// A start with a resolution neither 300 nor 203.
+/// A start with a resolution neither 300 nor 203, or on paper that is too
+/// narrow or too wide.
 pub const START_REFUSED: u8 = 3;
 /// The state is outside the bounds.
 pub const STATE_REFUSED: u8 = 4;
@@ -46,10 +48,12 @@ pub struct Report {
 }
 
 /// Starts a printer: the answer's number and the power-on state.
-pub fn start(dots: u32, auto_feed: bool) -> (u8, State) {
-    match dots {
-        300 | 203 => (INPUT_USED, State::power_on(dots, auto_feed)),
-        _ => (START_REFUSED, State::power_on(300, false)),
+pub fn start(dots: u32, auto_feed: bool, paper_width: u32) -> (u8, State) {
+    match (dots, paper_width) {
+        (300 | 203, NARROWEST_PAPER..=WIDEST_PAPER) => {
+            (INPUT_USED, State::power_on(dots, auto_feed, paper_width))
+        }
+        _ => (START_REFUSED, State::power_on(300, false, WIDEST_PAPER)),
     }
 }
 

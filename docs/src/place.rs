@@ -2,7 +2,7 @@
 
 use crate::reading::Reading;
 use crate::records::{Reason, Record, NEW_TOP};
-use crate::state::{State, Waiting, LONGEST_PAGE, PAPER_WIDTH, SHORTEST_PAGE};
+use crate::state::{State, Waiting, LONGEST_PAGE, SHORTEST_PAGE};
 
 impl Reading<'_> {
     /// A letter: placed, placed after an automatic line, or passed over.
@@ -180,7 +180,7 @@ impl Reading<'_> {
 
     /// ESC l and ESC Q: new margins, if the bounds hold.
     pub fn set_margins(&mut self, left: u32, right: u32) -> Result<(), Reason> {
-        if left >= right || right > PAPER_WIDTH {
+        if left >= right || right > self.state.paper_width {
             return Err(Reason::PastLimits);
         }
         self.state.left = left;
@@ -211,10 +211,13 @@ impl Reading<'_> {
         Ok(())
     }
 
-    /// ESC @: as at power-on, keeping resolution and automatic line feed.
+    /// ESC @: as at power-on, keeping resolution, automatic line feed and the
+    /// paper's width.
     pub fn initialize(&mut self) {
-        let (resolution, feed) = (self.state.resolution, self.state.automatic_line_feed);
-        self.set_width(|state| *state = State::power_on(resolution, feed));
+        self.set_width(|state| {
+            let (resolution, feed) = (state.resolution, state.automatic_line_feed);
+            *state = State::power_on(resolution, feed, state.paper_width);
+        });
         self.go_down(0);
         self.records.line(0, NEW_TOP);
     }

@@ -1,7 +1,9 @@
 //! The printer state, power-on and the widths that follow from the settings.
 
-/// The paper's width: 80 columns of 10 cpi.
-pub(crate) const PAPER_WIDTH: u32 = 28_800;
+/// The narrowest paper: 20 columns of 10 cpi.
+pub(crate) const NARROWEST_PAPER: u32 = 7_200;
+/// The widest paper: 80 columns of 10 cpi.
+pub(crate) const WIDEST_PAPER: u32 = 28_800;
 pub(crate) const SHORTEST_PAGE: u32 = 3_600;
 pub(crate) const LONGEST_PAGE: u32 = 79_200;
 pub(crate) const LARGEST_LINE: u32 = 5_100;
@@ -77,6 +79,7 @@ pub struct State {
     /// Dots per inch across: 300 or 203.
     pub resolution: u32,
     pub automatic_line_feed: bool,
+    pub paper_width: u32,
     /// The place across, from the paper's left edge.
     pub across: u32,
     /// The place down, from the page's top.
@@ -126,14 +129,15 @@ pub struct State {
 
 impl State {
     /// The power-on state.
-    pub fn power_on(resolution: u32, automatic_line_feed: bool) -> State {
+    pub fn power_on(resolution: u32, automatic_line_feed: bool, paper_width: u32) -> State {
         State {
             resolution,
             automatic_line_feed,
+            paper_width,
             across: 0,
             down: 0,
             left: 0,
-            right: PAPER_WIDTH,
+            right: paper_width,
             page_length: POWER_ON_PAGE,
             skip: 0,
             line_amount: POWER_ON_LINE,

@@ -4,11 +4,12 @@ mod answers;
 mod bounds;
 mod hand_checked;
 mod interlock;
+mod narrow_paper;
 mod open_points;
 mod slot;
 
 use crate::records::RECORD_SIZE;
-use crate::{read_in_runs, start, Report, State, ROOM_FOR_A_BYTE};
+use crate::{read_in_runs, Report, State, ROOM_FOR_A_BYTE};
 
 /// A record taken apart.
 #[derive(Clone, Copy, PartialEq, Eq, Debug)]
@@ -90,6 +91,11 @@ fn apart(record: &[u8]) -> Seen {
         country: record[10],
         advance: word(12),
     }
+}
+
+/// A start on the widest paper.
+fn start(dots: u32, auto_feed: bool) -> (u8, State) {
+    crate::start(dots, auto_feed, 28_800)
 }
 
 /// Reads byte by byte, and sees that reading in runs gives the same.

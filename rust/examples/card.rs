@@ -3,7 +3,8 @@
 //! on it, and what stands now in each of a card's seven slots.
 //!
 //! ```text
-//! card [DOTS] < INPUT     at 300 dots to the inch, or 203
+//! card [DOTS [WIDTH]] < INPUT     at 300 dots to the inch, or 203, on paper of
+//!                                 this width in 1/3600 inch
 //! ```
 
 use ierbulosc::{
@@ -106,9 +107,12 @@ fn stands_apart(before: &Letter, letter: &Letter, dots: u32) -> bool {
 }
 
 fn main() -> ExitCode {
-    let dots = std::env::args().nth(1);
-    let dots = dots.map_or(300, |word| word.parse().unwrap_or(0));
-    let shown = read(dots).and_then(|(list, state)| show(&list, &state));
+    let number = |at, plain| {
+        let word = std::env::args().nth(at);
+        word.map_or(plain, |word| word.parse().unwrap_or(0))
+    };
+    let shown =
+        read(number(1, 300), number(2, 28_800)).and_then(|(list, state)| show(&list, &state));
     match shown {
         Ok(()) => ExitCode::SUCCESS,
         Err(problem) => {
@@ -124,7 +128,7 @@ fn done(answer: u8) -> Result<(), String> {
         INPUT_USED => return Ok(()),
         ALLOWANCE_USED => "input is left over: the allowance is used",
         OUTPUT_FULL => "input is left over: the output is full",
-        SETTINGS_REFUSED => "300 or 203 dots to the inch",
+        SETTINGS_REFUSED => "300 or 203 dots to the inch, paper of 7200 to 28800 units",
         STATE_REFUSED => "the state is none that the reader left",
         LENGTH_REFUSED => "the list ends within a record",
         _ => "an answer that is none of the reader's",
@@ -132,11 +136,13 @@ fn done(answer: u8) -> Result<(), String> {
     Err(problem.to_string())
 }
 
-/// All records of standard input, at so many dots to the inch, and the state
-/// at its end. (Records of the pages before the present one could be let go.)
-fn read(resolution: u32) -> Result<(Vec<u8>, State), String> {
+/// All records of standard input, at so many dots to the inch, on paper of this
+/// width, and the state at its end. (Records of the pages before the present
+/// one could be let go.)
+fn read(resolution: u32, width: u32) -> Result<(Vec<u8>, State), String> {
     let (answer, mut state) = State::start(&Settings {
         resolution,
+        width,
         ..Settings::default()
     });
     done(answer)?;

@@ -35,7 +35,7 @@ pub const INPUT_USED: u8 = 0;
 pub const ALLOWANCE_USED: u8 = 1;
 /// Under [`ROOM`] bytes of output are left, and input and allowance are left.
 pub const OUTPUT_FULL: u8 = 2;
-/// A start whose resolution is neither 300 nor 203.
+/// A start whose resolution or width is none that is taken.
 pub const SETTINGS_REFUSED: u8 = 3;
 /// The state is none that the library leaves.
 pub const STATE_REFUSED: u8 = 4;
@@ -67,8 +67,9 @@ impl State {
     ///
     /// The answer and the state with it:
     /// - [`INPUT_USED`]: the power-on state of these settings;
-    /// - [`SETTINGS_REFUSED`]: the resolution is neither 300 nor 203; the
-    ///   power-on state of [`Settings::default`].
+    /// - [`SETTINGS_REFUSED`]: the resolution is neither 300 nor 203, or the
+    ///   width is not from 7,200 to 28,800; the power-on state of
+    ///   [`Settings::default`].
     pub fn start(settings: &Settings) -> (u8, State) {
         let mut state = State::from_registers([0; REGISTERS]);
         // SAFETY: the pointers are to whole structs, the state's to one that

@@ -4,7 +4,7 @@
 use std::mem::transmute;
 
 /// The numbers of a state.
-pub const REGISTERS: usize = 137;
+pub const REGISTERS: usize = 138;
 /// The room of a list of tab stops.
 pub const TAB_STOPS: usize = 32;
 /// The most horizontal tab stops.
@@ -35,6 +35,8 @@ pub struct Settings {
     pub resolution: u32,
     /// Any number but 0: CR feeds a line.
     pub auto_feed: u32,
+    /// The width of the paper, in units of 1/3600 inch: 7,200 to 28,800.
+    pub width: u32,
 }
 
 /// A list of tab stops, of which the first `count` are held, ascending
@@ -82,7 +84,7 @@ pub struct State {
     pub down: u32,
     /// Left margin, below the right one.
     pub left: u32,
-    /// Right margin, at most 28,800.
+    /// Right margin, at most the width of the paper.
     pub right: u32,
     /// Page length, 3,600 to 79,200.
     pub page: u32,
@@ -96,6 +98,8 @@ pub struct State {
     pub dots_down: u32,
     /// Flag: CR feeds a line.
     pub auto_feed: u32,
+    /// The width of the paper, 7,200 to 28,800.
+    pub paper_width: u32,
     /// Letters of an inch: 10, 12 or 15.
     pub pitch: u32,
     /// ESC SP, 0 to 127.
@@ -158,11 +162,12 @@ pub struct State {
 }
 
 impl Default for Settings {
-    /// 300 dots, automatic line feed off.
+    /// 300 dots, automatic line feed off, the widest paper.
     fn default() -> Settings {
         Settings {
             resolution: 300,
             auto_feed: 0,
+            width: 28_800,
         }
     }
 }

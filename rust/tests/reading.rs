@@ -19,6 +19,7 @@ fn starts() {
         State::start(&Settings {
             resolution,
             auto_feed,
+            ..Settings::default()
         })
     };
     for auto_feed in [1, 2, 256, 1 << 31, u32::MAX] {
@@ -33,15 +34,40 @@ fn starts() {
     }
 }
 
+/// Document 02, E3: a width in its range is kept and is the right margin; all
+/// others are refused.
+#[test]
+fn widths() {
+    let start = |resolution, width| {
+        State::start(&Settings {
+            resolution,
+            auto_feed: 1,
+            width,
+        })
+    };
+    for width in [7_200, 7_201, 7_559, 28_799, 28_800] {
+        let (answer, mut state) = start(203, width);
+        assert_eq!(answer, INPUT_USED);
+        assert_eq!((state.paper_width, state.right), (width, width));
+        let before = state;
+        let report = state.read(b"\x1BQ\x05\x1B@", 5, &mut [0; 3 * ROOM]);
+        assert_eq!((report.answer, state), (INPUT_USED, before));
+    }
+    for refused in [0, 1, 7_199, 28_801, 65_536 + 7_200, u32::MAX] {
+        assert_eq!(start(203, refused), (SETTINGS_REFUSED, power_on()));
+    }
+    assert_eq!(start(204, 7_200), (SETTINGS_REFUSED, power_on()));
+}
+
 /// Document 01, 'Power-on', number by number.
 #[test]
 fn power_on_by_numbers() {
     let state = power_on();
     let mut expected = [0; REGISTERS];
-    expected[7..14].copy_from_slice(&[28_800, 39_600, 0, 600, 300, 300, 0]);
-    expected[14] = 10;
-    expected[33..37].copy_from_slice(&[1, 0, 360, 360]);
-    expected[38..48].copy_from_slice(&[9, 8, 16, 24, 32, 40, 48, 56, 64, 72]);
+    expected[7..15].copy_from_slice(&[28_800, 39_600, 0, 600, 300, 300, 0, 28_800]);
+    expected[15] = 10;
+    expected[34..38].copy_from_slice(&[1, 0, 360, 360]);
+    expected[39..49].copy_from_slice(&[9, 8, 16, 24, 32, 40, 48, 56, 64, 72]);
     assert_eq!(state.registers(), expected);
     assert_eq!(State::from_registers(expected), state);
     assert_eq!(state.columns.held(), [8, 16, 24, 32, 40, 48, 56, 64, 72]);
@@ -130,7 +156,7 @@ fn answers_in_order() {
 /// Each register in turn with a number that no state has there.
 #[test]
 fn a_refused_state_stays() {
-    let unseen = |at: usize| (48..71).contains(&at) || (72..REGISTERS).contains(&at);
+    let unseen = |at: usize| (49..72).contains(&at) || (73..REGISTERS).contains(&at);
     for at in (0..REGISTERS).filter(|&at| !unseen(at)) {
         let mut registers = power_on().registers();
         registers[at] += 1 << 31;

@@ -200,6 +200,7 @@ fn add_card(random: &mut Random, to: &mut Vec<u8>) {
     let settings = Settings {
         resolution: random.pick(&[300, 203]),
         auto_feed: random.pick(&[0, 1]),
+        width: random.pick(&[28_800, 28_800, 28_800, 7_200, 7_559]),
     };
     let (_, mut state) = State::start(&settings);
     let longest = random.pick(&[4, 12, 40]);

@@ -46,6 +46,10 @@ same (a ∷ l) (b ∷ m) = both (eqb a b) (same l m)
 abbrev pub dotsWord : List ℕ
 dotsWord = 45 ∷ 45 ∷ 100 ∷ 111 ∷ 116 ∷ 115 ∷ []
 
+-- --width
+abbrev pub widthWord : List ℕ
+widthWord = 45 ∷ 45 ∷ 119 ∷ 105 ∷ 100 ∷ 116 ∷ 104 ∷ []
+
 -- --auto-feed
 abbrev pub autoFeedWord : List ℕ
 autoFeedWord = 45 ∷ 45 ∷ 97 ∷ 117 ∷ 116 ∷ 111 ∷ 45 ∷ 102 ∷ 101 ∷ 101 ∷ 100 ∷ []
@@ -56,31 +60,41 @@ helpWord = 45 ∷ 45 ∷ 104 ∷ 101 ∷ 108 ∷ 112 ∷ []
 
 -- Options
 
--- before any word: 300 dots an inch, automatic line feed off
+-- before any word: 300 dots an inch, automatic line feed off, the widest paper
 abbrev pub noWords : Options
 noWords = Options.Run plainStart
 
 abbrev pub withDots : StartSettings → ℕ → StartSettings
-withDots s dots = record { resolution = dots; autofeed = s .autofeed }
+withDots s dots = record { resolution = dots; autofeed = s .autofeed; width = s .width }
 
 abbrev pub withFeed : StartSettings → StartSettings
-withFeed s = record { resolution = s .resolution; autofeed = true }
+withFeed s = record { resolution = s .resolution; autofeed = true; width = s .width }
+
+abbrev pub withWidth : StartSettings → ℕ → StartSettings
+withWidth s width = record { resolution = s .resolution; autofeed = s .autofeed; width = width }
 
 -- a word where an option may stand
 unfoldable pub afterOption : StartSettings → List ℕ → Options
 afterOption s w =
     pick (same w dotsWord) (Options.WantsDots s)
+    (pick (same w widthWord) (Options.WantsWidth s)
     (pick (same w autoFeedWord) (Options.Run (withFeed s))
-    (pick (same w helpWord) Options.Help Options.Bad))
+    (pick (same w helpWord) Options.Help Options.Bad)))
 
 -- the word after --dots
 abbrev pub afterDots : StartSettings → Number → Options
 afterDots s (Number.Value n) = Options.Run (withDots s n)
 afterDots s Number.Unreadable = Options.Bad
 
+-- the word after --width
+abbrev pub afterWidth : StartSettings → Number → Options
+afterWidth s (Number.Value n) = Options.Run (withWidth s n)
+afterWidth s Number.Unreadable = Options.Bad
+
 abbrev pub afterWord : Options → List ℕ → Options
 afterWord (Options.Run s) w = afterOption s w
 afterWord (Options.WantsDots s) w = afterDots s (decimalOf w)
+afterWord (Options.WantsWidth s) w = afterWidth s (decimalOf w)
 afterWord Options.Help w = Options.Help
 afterWord Options.Bad w = Options.Bad
 
@@ -88,5 +102,6 @@ afterWord Options.Bad w = Options.Bad
 abbrev pub choiceOf : Options → Choice
 choiceOf (Options.Run s) = Choice.Run s
 choiceOf (Options.WantsDots s) = Choice.Bad
+choiceOf (Options.WantsWidth s) = Choice.Bad
 choiceOf Options.Help = Choice.Help
 choiceOf Options.Bad = Choice.Bad

@@ -1,10 +1,11 @@
-// The words of the command line, taken one by one: --dots N, --auto-feed, --help. Of two --dots the last holds; after --help, or a word that
-// is none of these, no other counts. The module `columns` has the words of `under`.
+// The words of the command line, taken one by one: --dots N, --width N, --auto-feed, --help. Of two --dots or two --width the last holds;
+// after --help, or a word that is none of these, no other counts. The module `columns` has the words of `under`.
 pub mod columns;
 
 use printer::settings::StartSettings;
+use printer::starting::plain_start;
 ghost use mathlib.Core.Path.{_≡_};
-ghost use Rattle.command_line.specs.CommandLine.{isDigit, decimalOf, same, noWords, withDots, withFeed, afterOption, afterDots, afterWord, choiceOf};
+ghost use Rattle.command_line.specs.CommandLine.{isDigit, decimalOf, same, noWords, withDots, withFeed, withWidth, afterOption, afterDots, afterWidth, afterWord, choiceOf};
 
 // A word read as a number.
 pub enum Number {
@@ -17,6 +18,8 @@ pub enum Options {
     Run(StartSettings),
     // The number after --dots is the next word.
     WantsDots(StartSettings),
+    // The number after --width is the next word.
+    WantsWidth(StartSettings),
     Help,
     Bad,
 }
@@ -78,6 +81,7 @@ fn with_dots(s: StartSettings, dots: u32) -> StartSettings
     StartSettings {
         resolution: dots,
         autofeed: s.autofeed,
+        width: s.width,
     }
 }
 
@@ -88,6 +92,18 @@ fn with_feed(s: StartSettings) -> StartSettings
     StartSettings {
         resolution: s.resolution,
         autofeed: true,
+        width: s.width,
+    }
+}
+
+// The settings with another width of the paper.
+fn with_width(s: StartSettings, width: u32) -> StartSettings
+    ensures { λ r. ⌜ r ≡ withWidth s width ⌝ }
+{
+    StartSettings {
+        resolution: s.resolution,
+        autofeed: s.autofeed,
+        width,
     }
 }
 
@@ -96,6 +112,9 @@ fn after_option(s: StartSettings, word: &[u8]) -> Options
 {
     if same_word(word, b"--dots") {
         return Options::WantsDots(s);
+    }
+    if same_word(word, b"--width") {
+        return Options::WantsWidth(s);
     }
     if same_word(word, b"--auto-feed") {
         return Options::Run(with_feed(s));
@@ -115,16 +134,21 @@ fn after_dots(s: StartSettings, n: Number) -> Options
     }
 }
 
+fn after_width(s: StartSettings, n: Number) -> Options
+    ensures { λ r. ⌜ r ≡ afterWidth s n ⌝ }
+{
+    match n {
+        Number::Value(width) => Options::Run(with_width(s, width)),
+        Number::Unreadable => Options::Bad,
+    }
+}
+
 impl Options {
-    // Before any word: 300 dots, automatic line feed off.
+    // Before any word: 300 dots, automatic line feed off, the widest paper.
     pub fn new() -> Options
         ensures { λ r. ⌜ r ≡ noWords ⌝ }
     {
-        let s = StartSettings {
-            resolution: 300,
-            autofeed: false,
-        };
-        Options::Run(s)
+        Options::Run(plain_start())
     }
 
     // After one more word.
@@ -134,6 +158,7 @@ impl Options {
         match self {
             Options::Run(s) => after_option(s, word),
             Options::WantsDots(s) => after_dots(s, decimal(word)),
+            Options::WantsWidth(s) => after_width(s, decimal(word)),
             Options::Help => Options::Help,
             Options::Bad => Options::Bad,
         }
@@ -146,6 +171,7 @@ impl Options {
         match self {
             Options::Run(s) => Choice::Run(s),
             Options::WantsDots(_) => Choice::Bad,
+            Options::WantsWidth(_) => Choice::Bad,
             Options::Help => Choice::Help,
             Options::Bad => Choice::Bad,
         }

@@ -23,7 +23,7 @@ fn asked() -> Choice {
 fn help() {
     io::write_all(
         STDOUT_FILENO,
-        b"escp [--dots 203|300] [--auto-feed] < INPUT\n",
+        b"escp [--dots 203|300] [--width N] [--auto-feed] < INPUT\n",
     );
     io::write_all(
         STDOUT_FILENO,
@@ -35,6 +35,10 @@ fn help() {
     );
     io::write_all(
         STDOUT_FILENO,
+        b"  --width N    width of the paper in 1/3600 inch: 7200 to 28800 (28800 if not given)\n",
+    );
+    io::write_all(
+        STDOUT_FILENO,
         b"  --auto-feed  a line feed after each carriage return\n",
     );
     io::write_all(STDOUT_FILENO, b"  --help       this text\n");
@@ -43,7 +47,7 @@ fn help() {
 fn bad_usage() {
     io::write_all(
         STDERR_FILENO,
-        b"escp: takes --dots 203, --dots 300, --auto-feed and --help\n",
+        b"escp: takes --dots 203, --dots 300, --width 7200 to 28800, --auto-feed and --help\n",
     );
 }
 
@@ -56,7 +60,10 @@ fn start(settings: StartSettings) {
             listing::run(printer);
         }
         _ => {
-            io::write_all(STDERR_FILENO, b"escp: --dots takes 203 or 300\n");
+            io::write_all(
+                STDERR_FILENO,
+                b"escp: --dots takes 203 or 300, --width takes 7200 to 28800\n",
+            );
         }
     }
 }

@@ -13,7 +13,8 @@ use Rattle.slot.specs.Slot as slot
 
 -- the settings by their numbers: any but 0 switches automatic line feed on
 abbrev pub settingsIn : List ℕ → StartSettings
-settingsIn given = record { resolution = getD given 0 0; autofeed = not (eqb (getD given 1 0) 0) }
+settingsIn given =
+    record { resolution = getD given 0 0; autofeed = not (eqb (getD given 1 0) 0); width = getD given 2 0 }
 
 -- escp_start, of the settings as numbers, its answer's number and the registers after
 pub record EscpStartPromise (given : List ℕ) (number : ℕ) (left : List ℕ) : Type 0 where

@@ -5,7 +5,7 @@ ghost use mathlib.Core.Path.{_≡_};
 ghost use Rattle.ierbulosc.specs.Calls.{settingsIn, EscpStartPromise, EscpReadPromise, EscpSlotPromise};
 
 // How many numbers a start's settings are: the fields of `escp_settings`, in their order.
-pub const SETTINGS: usize = 2;
+pub const SETTINGS: usize = 3;
 
 // How many numbers a reading call counts: the bytes read, and the bytes written.
 pub const COUNTS: usize = 2;
@@ -20,10 +20,11 @@ fn settings_in(given: &[u32; SETTINGS]) -> StartSettings
     StartSettings {
         resolution: given[0],
         autofeed: given[1] != 0,
+        width: given[2],
     }
 }
 
-// Starts a printer at 300 or 203 dots; refuses any other resolution.
+// Starts a printer at 300 or 203 dots, on paper of 7,200 to 28,800 units; refuses any other resolution or width.
 #[no_mangle]
 pub extern "C" fn escp_start(state: &mut [u32; COUNT], settings: &[u32; SETTINGS]) -> u8
     ensures { λ r. ⌜ EscpStartPromise (now (settings .entry)) r (now (state .exit)) ⌝ }

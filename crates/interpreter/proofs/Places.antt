@@ -5,7 +5,7 @@ use mathlib.Core.Bool.{false}
 use mathlib.Core.List.{List}
 use lib.ListN.{set, getD}
 use Rattle.printer.specs.Records.{styleOf}
-use Rattle.printer.specs.Settings.{leftOf, rightOf, lineOf, acrossOf, downOf, at, withWideOnce}
+use Rattle.printer.specs.Settings.{leftOf, rightOf, paperWidthOf, lineOf, acrossOf, downOf, at, withWideOnce}
 use Rattle.printer.specs.Performing.{withParts}
 use Rattle.printer.specs.declared.state.Printer.{Printer}
 use Rattle.registers.specs.declared.pending.Pending.{Pending}
@@ -29,6 +29,10 @@ module _ {p : Printer} {v : Pending} {m : List ℕ} (h : Held p v m) where
   pub right-held : getD m 7 0 ≡ rightOf (p .settings)
   unfolding laid
   right-held = rw (h .same)
+
+  pub paper-held : getD m 14 0 ≡ paperWidthOf (p .settings)
+  unfolding laid
+  paper-held = rw (h .same)
 
   pub line-held : getD m 10 0 ≡ lineOf (p .settings)
   unfolding laid

@@ -93,9 +93,12 @@ module _ {p : Printer} {v : Pending} {w : Waiting} {m : List ℕ} (h : Current p
   in-margins = rw (across-held (h .held), right-held (h .held)) (h .accepted .place .1 .0)
 
   pub right-most : (getD m 7 0 ≤ 28800) × (getD m 11 0 ≤ 300)
-  right-most = (rw (right-held (h .held)) (h .accepted .settings .1 .0), rw dots-held (dots-few (p .settings .setup .resolution)))
+  right-most =
+      let s = h .accepted .settings in
+      let e = right-held (h .held) in
+      (omega arith, rw dots-held (dots-few (p .settings .setup .resolution)))
 
-  pub advances : 0 < getD m 35 0
+  pub advances : 0 < getD m 36 0
   advances = rw (advance-held (h .held)) (advance-positive (p .settings .width))
 
   -- image data is of some columns
@@ -106,11 +109,11 @@ module _ {p : Printer} {v : Pending} {w : Waiting} {m : List ℕ} (h : Current p
       omega (arith, b)
 
   module _ {input out after : List ℕ} {n : ℕ} (left : ℕ) {r : Record} where
-    pub letters-taken : w ≡ Waiting.Nothing → Fits n (length input) (length out) (getD m 4 0) (getD m 35 0) (getD m 7 0)
-        → Letters (isSet (getD m 33 0)) (take n input) → r ≡ letterRecord (p .settings) (p .place) 0 (advanceOf (p .settings))
-        → Written out 0 (placedAll r (getD m 11 0) (getD m 4 0) (getD m 35 0) (take n input)) (recordSize * n) after
+    pub letters-taken : w ≡ Waiting.Nothing → Fits n (length input) (length out) (getD m 4 0) (getD m 36 0) (getD m 7 0)
+        → Letters (isSet (getD m 34 0)) (take n input) → r ≡ letterRecord (p .settings) (p .place) 0 (advanceOf (p .settings))
+        → Written out 0 (placedAll r (getD m 11 0) (getD m 4 0) (getD m 36 0) (take n input)) (recordSize * n) after
         → TurnPromise p v input out (record { waiting = Waiting.Nothing; read = n; written = recordSize * n; left = left })
-        (set m 4 (getD m 4 0 + n * getD m 35 0)) after
+        (set m 4 (getD m 4 0 + n * getD m 36 0)) after
     letters-taken e f l k g =
         let c : length (take n input) ≡ n = length-take-le n input (f .some-input) in
         let a = letters-read (take n input) p (length out) (sym (h .waits) ∙ e) (rw (upper-held (h .held)) at l)

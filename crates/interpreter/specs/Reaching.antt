@@ -3,7 +3,7 @@ use Prim.Native.Nat.{ℕ, _+_, _*_, _-_, _/_, _%_}
 use mathlib.Core.Bool.{Bool, true, false}
 use lib.Dec.{leb, ltb, eqb}
 use Rattle.printer.specs.Tools.{pick, both}
-use Rattle.printer.specs.Units.{units, paperWidth}
+use Rattle.printer.specs.Units.{units}
 use Rattle.printer.specs.Performing.{relativeMove}
 use Rattle.printer.specs.declared.settings.Margins.{Margins}
 use Rattle.interpreter.specs.declared.lines.Depth.{Depth}
@@ -37,8 +37,8 @@ relativeTo m across n step =
 abbrev pub leftColumn : (width n right : ℕ) → Position
 leftColumn width n right = reach (ltb (n * width) right) (n * width)
 
-abbrev pub rightColumn : (width n left : ℕ) → Position
-rightColumn width n left = reach (both (ltb left (n * width)) (leb (n * width) paperWidth)) (n * width)
+abbrev pub rightColumn : (width n left paper : ℕ) → Position
+rightColumn width n left paper = reach (both (ltb left (n * width)) (leb (n * width) paper)) (n * width)
 
 -- down by n/180 inch, over edges; nowhere, if the edge is the top
 abbrev pub furtherDown : (down n edge : ℕ) → Depth

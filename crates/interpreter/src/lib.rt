@@ -22,7 +22,9 @@ use printer::answers::Report;
 use printer::commands::Waiting;
 use printer::settings::Setup;
 use printer::settings::StartSettings;
-use printer::units::Resolution;
+use printer::starting::plain_start;
+use printer::starting::setup_of;
+use printer::starting::usable;
 use reading::run;
 use registers::COUNT;
 use registers::bounds::examine;
@@ -31,37 +33,27 @@ use registers::pending::store_pending;
 use registers::power_on::power_on;
 use registers::stores::whole;
 ghost use mathlib.Core.Path.{_≡_};
-ghost use Rattle.printer.specs.Calls.{setup};
 ghost use Rattle.printer.specs.PowerOn.{powerOn};
 ghost use Rattle.registers.specs.State.{registersOf};
 ghost use Rattle.interpreter.specs.Calls.{ReadsRegisters, StartsRegisters};
 
-// Stores the power-on state for the settings, and gives an answer.
-fn started(m: &mut [u32; COUNT], answer: Answer, resolution: Resolution, autofeed: bool) -> Answer
-    ensures { λ r. ⌜ (r ≡ answer) × (now (m .exit) ≡ registersOf (powerOn (setup resolution autofeed))) ⌝ }
+// Stores the power-on state, and gives an answer.
+fn started(m: &mut [u32; COUNT], answer: Answer, setup: Setup) -> Answer
+    ensures { λ r. ⌜ (r ≡ answer) × (now (m .exit) ≡ registersOf (powerOn setup)) ⌝ }
 {
-    let setup = Setup {
-        resolution,
-        autofeed,
-    };
     power_on(&mut *m, setup);
     store_pending(m, pending_of(Waiting::Nothing));
     answer
 }
 
-// Starts at 300 or 203 dots; refuses any other resolution.
+// Starts with settings that are taken; refuses any other.
 pub fn start(m: &mut [u32; COUNT], settings: StartSettings) -> Answer
     ensures { λ r. ⌜ StartsRegisters settings r (now (m .exit)) ⌝ }
 {
-    let resolution = settings.resolution;
-    let autofeed = settings.autofeed;
-    if resolution == 300 {
-        return started(m, Answer::InputUsed, Resolution::Dots300, autofeed);
+    if usable(settings) {
+        return started(m, Answer::InputUsed, setup_of(settings));
     }
-    if resolution == 203 {
-        return started(m, Answer::InputUsed, Resolution::Dots203, autofeed);
-    }
-    started(m, Answer::SettingsRefused, Resolution::Dots300, false)
+    started(m, Answer::SettingsRefused, setup_of(plain_start()))
 }
 
 // Reads input into records, on registers of a state within its bounds.

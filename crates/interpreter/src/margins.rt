@@ -4,12 +4,12 @@ use crate::output::write_passed;
 use crate::positions::Position;
 use crate::positions::columns;
 use printer::commands::Side;
-use printer::state::Printer;
 use printer::units::Units;
 use registers::ACROSS;
 use registers::COLUMN_WIDTH;
 use registers::COUNT;
 use registers::LEFT;
+use registers::PAPER_WIDTH;
 use registers::RIGHT;
 ghost use mathlib.Core.Path.{_≡_};
 ghost use mathlib.Core.List.{[], _∷_};
@@ -18,6 +18,7 @@ ghost use lib.ListN.{length};
 ghost use Rattle.printer.specs.Records.{recordSize, clearRecord};
 ghost use Rattle.printer.specs.Deciding.{attempt};
 ghost use Rattle.printer.specs.declared.commands.Command.{Command};
+ghost use Rattle.printer.specs.declared.state.Printer.{Printer};
 ghost use Rattle.interpreter.specs.Outcome.{stepped};
 ghost use Rattle.interpreter.specs.Doing.{Does};
 ghost use Rattle.interpreter.specs.Reaching.{leftColumn, rightColumn};
@@ -35,11 +36,11 @@ fn left_column(width: Units, n: u8, right: Units) -> Position
 }
 
 // So many columns as a right margin: above the left one, and on the paper.
-fn right_column(width: Units, n: u8, left: Units) -> Position
-    ensures { λ r. ⌜ r ≡ rightColumn (width .0) n (left .0) ⌝ }
+fn right_column(width: Units, n: u8, left: Units, paper: Units) -> Position
+    ensures { λ r. ⌜ r ≡ rightColumn (width .0) n (left .0) (paper .0) ⌝ }
 {
     let to = columns(width, n as u32);
-    let fits = ((left.0 as u64) < to) & (to <= Printer::WIDTH.0 as u64);
+    let fits = ((left.0 as u64) < to) & (to <= paper.0 as u64);
     if fits {
         return Position::At(Units(to as u32));
     }
@@ -75,7 +76,8 @@ fn right_margin(m: &mut [u32; COUNT], n: u8, out: &mut [u8], at: usize) -> usize
     ensures { λ k. ⌜ Does (λ (p : Printer). attempt p (Command.Margin Side.Right n) 3 ∷ []) (now (m .entry)) (now (m .exit)) (now (out .entry)) at k (now (out .exit)) ⌝ }
 {
     let left = Units(m[LEFT]);
-    let Position::At(right) = right_column(Units(m[COLUMN_WIDTH]), n, left) else {
+    let paper = Units(m[PAPER_WIDTH]);
+    let Position::At(right) = right_column(Units(m[COLUMN_WIDTH]), n, left, paper) else {
         return write_passed(out, at, b'Q', 3);
     };
     margins_set(m, left, right, out, at)

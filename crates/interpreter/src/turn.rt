@@ -71,7 +71,7 @@ fn take_letters(
 ) -> Turned
     requires { ⌜ Kept Waiting.Nothing (now m) ⌝ }
     requires { ⌜ (0 < length (now input)) × (roomForByte ≤ length (now out)) ⌝ }
-    requires { ⌜ (length (now input) ≤ allowance) × (from ≡ pick (isSet (getD (now m) 33 0)) 0x80 0xA0) ⌝ }
+    requires { ⌜ (length (now input) ≤ allowance) × (from ≡ pick (isSet (getD (now m) 34 0)) 0x80 0xA0) ⌝ }
     requires { ⌜ printsFrom from (getD (now input) 0 0) ≡ true ⌝ }
     ensures { λ r. ⌜ ((p : Printer) (v : Pending) → Current p v Waiting.Nothing (now (m .entry))
         → TurnPromise p v (now (input .entry)) (now (out .entry)) r (now (m .exit)) (now (out .exit))) ⌝ }

@@ -1,14 +1,18 @@
 -- The bounds as a test and as facts are one, in both directions; the power-on states are within them.
+use Prim.Native.Nat.{_≤_}
 use mathlib.Core.Path.{_≡_, refl}
 use mathlib.Core.Bool.{true}
 use mathlib.Core.List.{List}
 use native.Mathlib.Omega.{arith}
-use Rattle.printer.specs.Tools.{both, Order, holds}
+use lib.Dec.{eqb}
+use Rattle.printer.specs.Tools.{both, either, Order, holds}
+use Rattle.printer.specs.Units.{narrowestPaper, widestPaper}
 use Rattle.printer.specs.PowerOn.{powerOn}
 use Rattle.printer.specs.Bounds.{settingsBounds, placeBounds, columnBounds, lineBounds, waitingBounds, ascending, accepted}
+use Rattle.printer.specs.Calls.{usable}
 use Rattle.printer.specs.Accepted.{Accepted, Typed}
-use Rattle.printer.specs.Types.{Setup, Printer}
-use Rattle.printer.proofs.Choices.{both-left, both-right, both-true, holds-fact, fact-holds}
+use Rattle.printer.specs.Types.{Setup, StartSettings, Printer}
+use Rattle.printer.proofs.Choices.{both-left, both-right, both-true, within-fact, holds-fact, fact-holds}
 
 pub fact-accepted : (p : Printer) → Accepted p → accepted p ≡ true
 unfolding accepted
@@ -38,9 +42,15 @@ accepted-fact p e =
       waiting = holds-fact w (both-right (holds l) (holds w) e₃);
     }
 
-pub power-on-accepted : (t : Setup) → Accepted (powerOn t)
+-- a start takes paper of these widths
+pub usable-width : (r : StartSettings) → usable r ≡ true → (narrowestPaper ≤ r .width) × (r .width ≤ widestPaper)
+usable-width r u =
+    omega (arith, within-fact _ _ (r .width) (both-right (either (eqb (r .resolution) 300) (eqb (r .resolution) 203)) _ u))
+
+-- for every width of the paper
+pub power-on-accepted : (t : Setup) → narrowestPaper ≤ t .width .0 → t .width .0 ≤ widestPaper → Accepted (powerOn t)
 unfolding ascending
-power-on-accepted t =
+power-on-accepted t h k =
     record { settings = omega arith; place = omega arith; columns = omega arith; lines = omega arith; waiting = tt }
 
 pub power-on-typed : (t : Setup) → Typed (powerOn t)

@@ -3,19 +3,22 @@ use Prim.Native.Nat.{ℕ, zero, suc, _+_, _*_, _-_, _≤_, _<_}
 use mathlib.Core.Path.{_≡_, refl, sym, ap, subst, _∙_}
 use mathlib.Core.Bool.{Bool, true, false}
 use mathlib.Core.List.{List, [], _∷_}
-use mathlib.Core.Logic.{inl, inr, ⊎-elim}
+use mathlib.Core.Logic.{_⊎_, inl, inr, ⊎-elim}
 use native.Mathlib.Omega.{arith}
 use lib.Dec.{ltb, eqb}
 use lib.ListN.{length, length-append}
-use borrow.Author.Tests.{ltb-true, ltb-false, eqb-true, eqb-false, eq-eqb, ne-eqb}
-use Rattle.printer.specs.Tools.{pick}
+use borrow.Author.Tests.{ltb-true, ltb-false, le-leb, eqb-true, eq-eqb, ne-eqb}
+use Rattle.printer.specs.Tools.{pick, either, within}
+use Rattle.printer.specs.Units.{narrowestPaper, widestPaper}
 use Rattle.printer.specs.Records.{recordSize, roomForByte, encodedAll}
 use Rattle.printer.specs.Bounds.{accepted}
 use Rattle.printer.specs.Steps.{stepOf, stepRecords}
-use Rattle.printer.specs.Calls.{isFull, startOf, Run, stopped, runOf, callOf, readingOf, outputOf, StartCall, ReadCall, Cell, row, ThatState, ByTable}
+use Rattle.printer.specs.Calls.{usable, isFull, startOf, Run, stopped, runOf, callOf, readingOf, outputOf, StartCall, ReadCall, Cell, row, DotsTaken, WidthTaken, ThatState, ByTable}
 use Rattle.printer.specs.Promises.{StartPromise, ReadPromise, callBy}
 use Rattle.printer.specs.Types.{Answer, Reading, Started, StartSettings, Printer}
-use Rattle.printer.proofs.Choices.{pick-elim}
+use Rattle.printer.proofs.Choices.{pick-elim, both-left, both-true, either-elim, within-fact}
+use Rattle.printer.proofs.Frames.{true-false}
+use Rattle.printer.proofs.Accepting.{usable-width}
 use Rattle.printer.proofs.Few.{two-records}
 use Rattle.printer.proofs.Cuts.{Gave, kept-promise}
 
@@ -133,42 +136,61 @@ read-by-table c h =
 abbrev startCell : StartCall → Answer → Cell
 startCell c a = row a .starting c
 
+-- the test of a start's settings, as facts
+
+taken-usable : (c : StartCall) → DotsTaken c → WidthTaken c → usable (c .settings) ≡ true
+taken-usable c d w = both-true _ _ dots (both-true _ _ (le-leb _ _ (w .0)) (le-leb _ _ (w .1)))
+  where
+    dots : either (eqb (c .settings .resolution) 300) (eqb (c .settings .resolution) 203) ≡ true
+    dots =
+        ⊎-elim (λ (e : c .settings .resolution ≡ 300). rw (eq-eqb _ _ e) refl)
+        (λ (e : c .settings .resolution ≡ 203). rw (ne-eqb (c .settings .resolution) 300 (omega arith), eq-eqb _ _ e) refl) d
+
+usable-taken : (c : StartCall) → usable (c .settings) ≡ true → DotsTaken c × WidthTaken c
+usable-taken c u = (
+  either-elim _ _ _ (both-left _ _ u) (λ e. inl (eqb-true _ _ e)) (λ e. inr (eqb-true _ _ e)),
+  usable-width (c .settings) u,
+)
+
+unusable-refused : (c : StartCall) → usable (c .settings) ≡ false → (DotsTaken c → ⊥) ⊎ (WidthTaken c → ⊥)
+unusable-refused c u = go (within narrowestPaper widestPaper (c .settings .width)) refl
+  where
+    go : (t : Bool) → within narrowestPaper widestPaper (c .settings .width) ≡ t → (DotsTaken c → ⊥) ⊎ (WidthTaken c → ⊥)
+    go true e = inl (λ d. let k = taken-usable c d (within-fact _ _ _ e) in true-false cc)
+    go false e = inr (λ w. let k = both-true _ _ (le-leb _ _ (w .0)) (le-leb _ _ (w .1)) in true-false cc)
+
 startAnswer : StartCall → Answer
-startAnswer c =
-    pick (eqb (c .settings .resolution) 300) Answer.InputUsed (pick (eqb (c .settings .resolution) 203) Answer.InputUsed Answer.SettingsRefused)
+startAnswer c = pick (usable (c .settings)) Answer.InputUsed Answer.SettingsRefused
 
 start-only : (c : StartCall) (a : Answer) → startCell c a .when → a ≡ startAnswer c
 unfolding startAnswer
-start-only c Answer.InputUsed w =
-    ⊎-elim (λ (e : c .settings .resolution ≡ 300). rw (eq-eqb _ _ e) refl)
-    (λ (e : c .settings .resolution ≡ 203). let n : (c .settings .resolution ≡ 300 → ⊥) = omega arith in rw (ne-eqb _ _ n, eq-eqb _ _ e) refl) w
+start-only c Answer.InputUsed w = rw (taken-usable c (w .0) (w .1)) refl
 start-only c Answer.AllowanceUsed w = absurd w
 start-only c Answer.OutputFull w = absurd w
-start-only c Answer.SettingsRefused w = rw (ne-eqb _ _ (w .0), ne-eqb _ _ (w .1)) refl
+start-only c Answer.SettingsRefused w = go (usable (c .settings)) refl
+  where
+    go : (t : Bool) → usable (c .settings) ≡ t → Answer.SettingsRefused ≡ startAnswer c
+    go true e = let k = usable-taken c e in ⊎-elim (λ f. absurd (f (k .0))) (λ f. absurd (f (k .1))) w
+    go false e = rw e refl
 start-only c Answer.StateRefused w = absurd w
 
 start-row : (c : StartCall) → c .back ≡ startOf (c .settings)
     → startCell c (c .back .answer) .when × startCell c (c .back .answer) .back
 unfolding startOf
-start-row c h = go (eqb (c .settings .resolution) 300) refl
+start-row c h = go (usable (c .settings)) refl
   where
-    row-of : Type 0
-    row-of = startCell c (c .back .answer) .when × startCell c (c .back .answer) .back
-
-    go-203 : (t : Bool) → eqb (c .settings .resolution) 300 ≡ false → eqb (c .settings .resolution) 203 ≡ t → row-of
-    go-203 true n e =
-        let g = rw (n, e) at h in
-        let r : c .settings .resolution ≡ 203 = eqb-true _ _ e in
-        rw g (inr r, record { at300 = λ z. absurd (omega arith); at203 = λ _. refl; waiting = refl })
-    go-203 false n e = let g = rw (n, e) at h in rw g ((eqb-false _ _ n, eqb-false _ _ e), refl)
-
-    go : (t : Bool) → eqb (c .settings .resolution) 300 ≡ t → row-of
+    go : (t : Bool) → usable (c .settings) ≡ t → startCell c (c .back .answer) .when × startCell c (c .back .answer) .back
     go true e =
-        let r : c .settings .resolution ≡ 300 = eqb-true _ _ e in
-        let n : eqb (c .settings .resolution) 203 ≡ false = ne-eqb (c .settings .resolution) 203 (omega arith) in
-        let g = rw (e, n) at h in
-        rw g (inl r, record { at300 = λ _. refl; at203 = λ z. absurd (omega arith); waiting = refl })
-    go false n = go-203 (eqb (c .settings .resolution) 203) n refl
+        let g = rw e at h in
+        rw g (
+          usable-taken c e,
+          record {
+            at300 = λ z. rw (ne-eqb (c .settings .resolution) 203 (omega arith)) refl;
+            at203 = λ z. rw (eq-eqb _ _ z) refl;
+            waiting = refl;
+          },
+        )
+    go false e = let g = rw e at h in rw g (unusable-refused c e, refl)
 
 pub start-by-table : (c : StartCall) → c .back ≡ startOf (c .settings) → ByTable (startCell c) (c .back .answer)
 start-by-table c h =

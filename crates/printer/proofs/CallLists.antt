@@ -6,13 +6,13 @@ use mathlib.Core.List.{List, [], _∷_, _++_}
 use native.Mathlib.Omega.{arith}
 use lib.Dec.{ltb, eqb}
 use lib.ListN.{length}
-use Rattle.printer.specs.Tools.{pick, either, Each, Bytes}
+use Rattle.printer.specs.Tools.{pick, Each, Bytes}
+use Rattle.printer.specs.Units.{narrowestPaper, widestPaper}
 use Rattle.printer.specs.Records.{recordSize, roomForByte, encodedAll}
 use Rattle.printer.specs.Decoding.{FitsBytes}
 use Rattle.printer.specs.Steps.{recordsOver, stepOf, stepRecords}
 use Rattle.printer.specs.PowerOn.{powerOn}
-use Rattle.printer.specs.Calls
-use Rattle.printer.specs.Calls.{isFull, numberOf, setup, setupOf, plainStart, startOf, Run, runOf, callOf, StartCall, ReadCall, bytesOf}
+use Rattle.printer.specs.Calls.{isFull, numberOf, setup, setupOf, startedWith, usable, plainStart, startOf, Run, runOf, callOf, StartCall, ReadCall, bytesOf}
 use Rattle.printer.specs.Accepted.{Ours}
 use Rattle.printer.specs.Promises.{ReadingPromise}
 use Rattle.printer.specs.Reckoning.{origin, begun, Axis, printed}
@@ -20,7 +20,7 @@ use Rattle.printer.specs.Shown.{written}
 use Rattle.printer.specs.Demand3.{Call, started, read, Chain, rulesAfter, occurrences, OwnCall, Own, NotFour, writtenBy, joined, Demand3}
 use Rattle.printer.specs.Types.{Answer, Started, Record, Setup, StartSettings, Printer, Resolution}
 use Rattle.printer.proofs.Choices.{pick-elim, each-append, bytes-take}
-use Rattle.printer.proofs.Accepting.{fact-accepted}
+use Rattle.printer.proofs.Accepting.{fact-accepted, usable-width}
 use Rattle.printer.proofs.KeepingSteps.{steps-ours, power-on-ours}
 use Rattle.printer.proofs.Writing.{steps-fit}
 use Rattle.printer.proofs.Bytes.{decodedAll-encoded, encodedAll-append}
@@ -38,17 +38,21 @@ record Begins (settings : StartSettings) (s : Started) : Type 0 where
 
 start-begins : (settings : StartSettings) → Begins settings (startOf settings)
 unfolding startOf
-start-begins settings = go (eqb (settings .resolution) 203) (eqb (settings .resolution) 300) refl
+start-begins settings = go (usable settings) refl
   where
-    keeps : (t : Setup) → Keeps (powerOn t) 0 origin origin
-    keeps t = record { ours = power-on-ours t; across = refl; down = refl; step = λ d m z. cc }
+    keeps : (t : Setup) → narrowestPaper ≤ t .width .0 → t .width .0 ≤ widestPaper → Keeps (powerOn t) 0 origin origin
+    keeps t h k = record { ours = power-on-ours t h k; across = refl; down = refl; step = λ d m z. cc }
 
-    go : (t u : Bool) → eqb (settings .resolution) 203 ≡ t
-        → Begins settings (pick (either u t) (Calls.startedWith Answer.InputUsed (setup (pick t Resolution.Dots203 Resolution.Dots300) (settings .autofeed))) (Calls.startedWith Answer.SettingsRefused (setupOf plainStart)))
-    go true true e = record { keeps = keeps _; begins = rw e; number = omega arith }
-    go true false e = record { keeps = keeps _; begins = rw e; number = omega arith }
-    go false true e = record { keeps = keeps _; begins = rw e; number = omega arith }
-    go false false e = record { keeps = keeps _; begins = rw e; number = omega arith }
+    -- at either resolution
+    taken : (t : Bool) → eqb (settings .resolution) 203 ≡ t → usable settings ≡ true
+        → Begins settings (startedWith Answer.InputUsed (setup (pick t Resolution.Dots203 Resolution.Dots300) settings))
+    taken true e u = let w = usable-width settings u in record { keeps = keeps _ (w .0) (w .1); begins = rw (u, e); number = omega arith }
+    taken false e u = let w = usable-width settings u in record { keeps = keeps _ (w .0) (w .1); begins = rw (u, e); number = omega arith }
+
+    go : (u : Bool) → usable settings ≡ u
+        → Begins settings (pick u (startedWith Answer.InputUsed (setupOf settings)) (startedWith Answer.SettingsRefused (setupOf plainStart)))
+    go true u = taken (eqb (settings .resolution) 203) refl u
+    go false u = record { keeps = keeps _ (omega arith) (omega arith); begins = rw u; number = omega arith }
 
 -- Reading calls
 

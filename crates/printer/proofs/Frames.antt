@@ -83,7 +83,7 @@ unclassified upper c h =
 alone : (upper : Bool) (l : List ℕ) (c : Command) → spelt c ≡ l → Plain c → NoList c → NoImage c → Framed upper l (Frame.Whole c Waiting.Nothing)
 alone upper l c e h n i = single e (unclassified upper c h) n i rests
 
-true-false : true ≡ false → ⊥
+pub true-false : true ≡ false → ⊥
 true-false e = let z : Clash = cc in clash z
 
 -- Single bytes

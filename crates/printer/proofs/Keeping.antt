@@ -190,9 +190,9 @@ keep-done p (Command.Control c b) n h k =
 keep-done p (Command.Refused r) n h k = (k, tt)
 keep-done p (Command.Silent c) n h k = (k, tt)
 keep-done p Command.Reset n h k =
-    let a = power-on-accepted (p .settings .setup) in (
+    let a = power-on-accepted (p .settings .setup) (omega arith) (omega arith) in (
       record {
-        within = (a .settings, a .place, omega arith);
+        within = omega arith;
         stops = record { typed = power-on-typed (p .settings .setup) .stops; columns = a .columns; lines = a .lines };
       },
       omega arith,

@@ -9,6 +9,7 @@ use lib.Dec.{leb, eqb}
 use lib.ListN.{length}
 use borrow.Author.Tests.{leb-false, eqb-false}
 use Rattle.printer.specs.Tools.{Holds, Bytes}
+use Rattle.printer.specs.Units.{narrowestPaper, widestPaper}
 use Rattle.printer.specs.Settings.{lineOf}
 use Rattle.printer.specs.PowerOn.{powerOn}
 use Rattle.printer.specs.Framing.{frame, imageWait, listFrame}
@@ -200,5 +201,5 @@ unfolding stateAfter
 steps-ours p [] m o = o
 steps-ours p (b ∷ l) m o = steps-ours (stepOf p b) l (m .1) (step-ours p b (m .0) o)
 
-pub power-on-ours : (t : Setup) → Ours (powerOn t)
-power-on-ours t = record { typed = power-on-typed t; accepted = power-on-accepted t }
+pub power-on-ours : (t : Setup) → narrowestPaper ≤ t .width .0 → t .width .0 ≤ widestPaper → Ours (powerOn t)
+power-on-ours t h k = record { typed = power-on-typed t; accepted = power-on-accepted t h k }

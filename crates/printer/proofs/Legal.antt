@@ -12,13 +12,13 @@ use borrow.Author.Tests.{leb-true, leb-false, ltb-true, eqb-true, eqb-false}
 use Rattle.printer.specs.Tools.{both, within, _upTo_, holds, Holds, Bytes}
 use Rattle.printer.specs.Units.{perInchAcross, perInchDown}
 use Rattle.printer.specs.Widths.{advance, imageStep}
-use Rattle.printer.specs.Settings.{acrossOf, leftOf, rightOf, pageOf, skipOf, lineOf, edgeOf, downOf, heldIn}
+use Rattle.printer.specs.Settings.{acrossOf, leftOf, rightOf, paperWidthOf, pageOf, skipOf, lineOf, edgeOf, downOf, heldIn}
 use Rattle.printer.specs.Escapes.{parameterRow, lookTakes}
 use Rattle.printer.specs.Codes.{spelt}
 use Rattle.printer.specs.Performing.{Event, done, passed, inside, automatic, Writing, silent, letter, imageByte, feed, clear, stopOf, lineFed, perform}
 use Rattle.printer.specs.Deciding.{pageRange, reasonOf, mostStops, tabNeeds, lineNeeds, controlNeeds, needsAt, attempt, ranged, pagesOfLine, letterEvents, feedAfterReturn, columnFrom, tabEvent, lineFrom, verticalEvents, vertical, controlEvents, decide}
 use Rattle.printer.specs.Bounds.{lastOf, lastStop, listBounds}
-use Rattle.printer.specs.InForce.{InForce}
+use Rattle.printer.specs.InForce.{InForce, keeping}
 use Rattle.printer.specs.Reckoning.{changeOf}
 use Rattle.printer.specs.Spelling.{Classified}
 use Rattle.printer.specs.Types.{Command, Control, Density, ListPart, Look, Parameter, Place, Printer, Settings, Stop, Stops, Tabs}
@@ -29,7 +29,7 @@ use Rattle.printer.proofs.Frames.{known, NoList}
 abbrev pub forceOf : Settings → Stops → ℕ → InForce
 forceOf s t n =
     record {
-      kept = record { dAcross = perInchAcross (s .setup .resolution); dDown = perInchDown (s .setup .resolution) };
+      kept = keeping (perInchAcross (s .setup .resolution)) (perInchDown (s .setup .resolution)) (paperWidthOf s);
       width = s .width;
       draft = s .draft;
       upper = s .upperprints;

@@ -16,14 +16,14 @@ use Rattle.printer.specs.Accepted.{Accepted, Typed}
 use Rattle.printer.specs.Steps.{stepRecords, stateAfter, recordsOver, eventsOver}
 use Rattle.printer.specs.Spelling.{pending, speltAll, StandsFor, ClassifiedOver, EveryListed}
 use Rattle.printer.specs.Advanced.{AdvancedCommands}
-use Rattle.printer.specs.Calls.{startOf, readingOf, outputOf, StartCall, ReadCall, row, numberOf, ThatState, ByTable}
+use Rattle.printer.specs.Calls.{usable, setupOf, startOf, readingOf, outputOf, StartCall, ReadCall, row, numberOf, ThatState, ByTable}
 use Rattle.printer.specs.Promises.{callBy, ReadingPromise}
 use Rattle.printer.specs.Cutting.{Readings, joinedInput, lastState, joinedOutput, bytesRead, ReadToEnd, Resumed, Leaves}
 use Rattle.printer.specs.Reckoning.{Motion, sets, Axis, movedAll, Moves, forthOf, backOf, Reckoning, Occurrence, reckonAll, acrossMotion, downMotion, motions}
 use Rattle.printer.specs.Demand3.{Call, started, Chain, Demand3}
 use Rattle.printer.specs.Cases.{CheckedByHand}
-use Rattle.printer.specs.Types.{Answer, Reading, Started, Record, Setup, StartSettings, Printer, Waiting}
-use Rattle.printer.proofs.Accepting.{fact-accepted, accepted-fact, power-on-accepted}
+use Rattle.printer.specs.Types.{Answer, Reading, Started, Record, StartSettings, Printer, Waiting}
+use Rattle.printer.proofs.Accepting.{fact-accepted, accepted-fact, power-on-accepted, usable-width}
 use Rattle.printer.proofs.KeepingSteps.{steps-ours}
 use Rattle.printer.proofs.Few.{two-records}
 use Rattle.printer.proofs.Listed.{every-listed}
@@ -50,9 +50,11 @@ stays-accepted p input t a b =
     let o = steps-ours p input b (record { typed = t; accepted = accepted-fact p a }) in
     fact-accepted (stateAfter p input) (o .accepted)
 
--- power-on is accepted, for both resolutions, with automatic line feed on and off
-pub power-on-is-accepted : (t : Setup) → accepted (powerOn t) ≡ true
-power-on-is-accepted t = fact-accepted (powerOn t) (power-on-accepted t)
+-- power-on is accepted, for all settings that a start takes
+pub power-on-is-accepted : (settings : StartSettings) → usable settings ≡ true → accepted (powerOn (setupOf settings)) ≡ true
+power-on-is-accepted settings u =
+    let w = usable-width settings u in
+    fact-accepted (powerOn (setupOf settings)) (power-on-accepted (setupOf settings) (w .0) (w .1))
 
 -- 2. Records and dots
 

@@ -3,8 +3,8 @@ use Prim.Native.Nat.{ℕ, suc, _+_}
 use mathlib.Core.Bool.{Bool}
 use mathlib.Core.List.{List, [], _∷_}
 use Rattle.printer.specs.Tools.{pick, both, Order, _upTo_, passes, holds}
-use Rattle.printer.specs.Units.{paperWidth, shortestPage, longestPage}
-use Rattle.printer.specs.Settings.{leftOf, rightOf, pageOf, skipOf, lineOf, edgeOf, acrossOf, downOf, heldIn}
+use Rattle.printer.specs.Units.{narrowestPaper, widestPaper, shortestPage, longestPage}
+use Rattle.printer.specs.Settings.{leftOf, rightOf, paperWidthOf, pageOf, skipOf, lineOf, edgeOf, acrossOf, downOf, heldIn}
 use Rattle.printer.specs.Escapes.{countries}
 use Rattle.printer.specs.Performing.{stopOf}
 use Rattle.printer.specs.Deciding.{mostStops}
@@ -13,7 +13,9 @@ use Rattle.printer.specs.Types.{Place, Printer, Settings, Stops, TabStop
 abbrev pub settingsBounds : Settings → List Order
 settingsBounds s =
     (suc (leftOf s) upTo rightOf s) ∷
-    (rightOf s upTo paperWidth) ∷
+    (rightOf s upTo paperWidthOf s) ∷
+    (narrowestPaper upTo paperWidthOf s) ∷
+    (paperWidthOf s upTo widestPaper) ∷
     (shortestPage upTo pageOf s) ∷
     (pageOf s upTo longestPage) ∷
     (shortestPage + skipOf s upTo pageOf s) ∷

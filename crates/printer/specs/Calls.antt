@@ -6,7 +6,8 @@ use mathlib.Core.List.{List, [], _∷_, _++_}
 use mathlib.Core.Logic.{_⊎_}
 use lib.Dec.{ltb, eqb}
 use lib.ListN.{length, take, drop}
-use Rattle.printer.specs.Tools.{pick, either}
+use Rattle.printer.specs.Tools.{pick, both, either, within}
+use Rattle.printer.specs.Units.{units, narrowestPaper, widestPaper}
 use Rattle.printer.specs.PowerOn.{powerOn}
 use Rattle.printer.specs.Records.{recordSize, roomForByte, encodedAll}
 use Rattle.printer.specs.Steps.{stepOf, stepRecords, stateAfter, recordsOver}
@@ -15,24 +16,28 @@ use Rattle.printer.specs.Types.{Answer, Report, Reading, Started, Waitin
 
 -- The start
 
-abbrev pub setup : Resolution → Bool → Setup
-setup r autofeed = record { resolution = r; autofeed = autofeed }
+-- this resolution, and all else as received
+abbrev pub setup : Resolution → StartSettings → Setup
+setup d r = record { resolution = d; autofeed = r .autofeed; width = units (r .width) }
 
 abbrev pub startedWith : Answer → Setup → Started
 startedWith a t = record { answer = a; printer = powerOn t }
 
--- resolution 300 or 203
+-- resolution 300 or 203; then the width of the paper
 abbrev pub usable : StartSettings → Bool
-usable r = either (eqb (r .resolution) 300) (eqb (r .resolution) 203)
+usable r = both (either (eqb (r .resolution) 300) (eqb (r .resolution) 203)) (within narrowestPaper widestPaper (r .width))
+
+abbrev pub resolutionOf : (dots : ℕ) → Resolution
+resolutionOf dots = pick (eqb dots 203) Resolution.Dots203 Resolution.Dots300
 
 abbrev pub setupOf : StartSettings → Setup
-setupOf r = setup (pick (eqb (r .resolution) 203) Resolution.Dots203 Resolution.Dots300) (r .autofeed)
+setupOf r = setup (resolutionOf (r .resolution)) r
 
 -- so many dots, and all else plain
 abbrev pub startAt : (dots : ℕ) → StartSettings
-startAt dots = record { resolution = dots; autofeed = false }
+startAt dots = record { resolution = dots; autofeed = false; width = widestPaper }
 
--- 300 dots, automatic line feed off: what a refused start gives
+-- 300 dots, automatic line feed off, the widest paper: what a refused start gives
 abbrev pub plainStart : StartSettings
 plainStart = startAt 300
 
@@ -161,10 +166,16 @@ pub record ThatState (c : ReadCall) : Type 0 where
   pub written : c .back .written ≡ 0
   pub output : c .after ≡ c .out
 
+abbrev pub DotsTaken : StartCall → Type 0
+DotsTaken c = (c .settings .resolution ≡ 300) ⊎ (c .settings .resolution ≡ 203)
+
+abbrev pub WidthTaken : StartCall → Type 0
+WidthTaken c = (narrowestPaper ≤ c .settings .width) × (c .settings .width ≤ widestPaper)
+
 -- an accepted start: the power-on state, waiting for nothing
 pub record PowerOnState (c : StartCall) : Type 0 where
-  pub at300 : c .settings .resolution ≡ 300 → c .back .printer ≡ powerOn (setup Resolution.Dots300 (c .settings .autofeed))
-  pub at203 : c .settings .resolution ≡ 203 → c .back .printer ≡ powerOn (setup Resolution.Dots203 (c .settings .autofeed))
+  pub at300 : c .settings .resolution ≡ 300 → c .back .printer ≡ powerOn (setup Resolution.Dots300 (c .settings))
+  pub at203 : c .settings .resolution ≡ 203 → c .back .printer ≡ powerOn (setup Resolution.Dots203 (c .settings))
   pub waiting : c .back .printer .waiting ≡ Waiting.Nothing
 
 abbrev pub row : Answer → Row
@@ -172,7 +183,7 @@ abbrev pub row : Answer → Row
 row Answer.InputUsed =
     record {
       number = 0;
-      starting = λ c. cell ((c .settings .resolution ≡ 300) ⊎ (c .settings .resolution ≡ 203)) (PowerOnState c);
+      starting = λ c. cell (DotsTaken c × WidthTaken c) (PowerOnState c);
       reading = λ c. cell (InBounds c × (c .back .read ≡ length (c .input))) (NewState c);
     }
 -- allowance used, input left
@@ -190,13 +201,13 @@ row Answer.OutputFull =
       reading = λ c.
           cell (InBounds c × (length (c .out) < c .back .written + roomForByte) × InputLeft c × AllowanceLeft c) (NewState c);
     }
--- starting: resolution neither 300 nor 203; power-on state for 300, automatic line feed off
+-- starting: resolution neither 300 nor 203, or a width outside its range; power-on state for 300 and 28,800, automatic line feed off
 row Answer.SettingsRefused =
     record {
       number = 3;
       starting = λ c.
-          cell ((c .settings .resolution ≡ 300 → ⊥) × (c .settings .resolution ≡ 203 → ⊥))
-          (c .back .printer ≡ powerOn (setup Resolution.Dots300 false));
+          cell ((DotsTaken c → ⊥) ⊎ (WidthTaken c → ⊥))
+          (c .back .printer ≡ powerOn (setup Resolution.Dots300 plainStart));
       reading = λ c. never;
     }
 -- state outside the bounds

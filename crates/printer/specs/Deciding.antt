@@ -4,9 +4,9 @@ use mathlib.Core.Bool.{Bool, true, false}
 use mathlib.Core.List.{List, [], _∷_}
 use lib.Dec.{leb, ltb, eqb}
 use Rattle.printer.specs.Tools.{pick, within, Order, _upTo_, passes, holds}
-use Rattle.printer.specs.Units.{units, paperWidth, shortestPage, longestPage}
+use Rattle.printer.specs.Units.{units, shortestPage, longestPage}
 use Rattle.printer.specs.Widths.{imageStep}
-use Rattle.printer.specs.Settings.{leftOf, rightOf, pageOf, lineOf, edgeOf, relativeStep, advanceOf, columnOf, acrossOf, downOf, heldIn}
+use Rattle.printer.specs.Settings.{leftOf, rightOf, paperWidthOf, pageOf, lineOf, edgeOf, relativeStep, advanceOf, columnOf, acrossOf, downOf, heldIn}
 use Rattle.printer.specs.Escapes.{parameterRow, lookTakes}
 use Rattle.printer.specs.Records.{unlisted, notAllowed, pastLimits, doesNotFit, noStop}
 use Rattle.printer.specs.Performing.{Event, done, passed, inside, automatic, stopAt, stopOf, pageUnits, perform}
@@ -69,10 +69,10 @@ abbrev pub skipNeeds : Settings → Place → ℕ → List Order
 skipNeeds s x n =
     (shortestPage + n * lineOf s upTo pageOf s) ∷ (suc (downOf x + n * lineOf s) upTo pageOf s) ∷ []
 
--- ESC l, ESC Q: left < right ≤ 28,800
+-- ESC l, ESC Q: left < right ≤ the paper's width
 abbrev pub marginNeeds : Settings → Side → ℕ → List Order
 marginNeeds s Side.Left n = (suc n upTo rightOf s) ∷ []
-marginNeeds s Side.Right n = (suc (leftOf s) upTo n) ∷ (n upTo paperWidth) ∷ []
+marginNeeds s Side.Right n = (suc (leftOf s) upTo n) ∷ (n upTo paperWidthOf s) ∷ []
 
 -- ESC \: the move stays between the margins
 abbrev pub relativeNeeds : Settings → Place → ℕ → List Order

@@ -3,7 +3,7 @@ use Prim.Native.Nat.{ℕ, _*_, _%_}
 use mathlib.Core.Bool.{Bool, true, false}
 use mathlib.Core.List.{List, [], _∷_, _++_}
 use lib.Dec.{leb, eqb}
-use Rattle.printer.specs.Tools.{pick}
+use Rattle.printer.specs.Tools.{pick, both, either, within}
 use Rattle.printer.specs.Widths.{advance, columnWidth}
 use Rattle.printer.specs.Types.{Density, ListPart, Mode, Page, Parameter, Side, Tabs, Pitch, StartSettings, Width}
 
@@ -21,10 +21,11 @@ pub record Lists : Type 0 where
   pub lines : List ℕ
   pub gathered : List ℕ
 
--- what a start has set and ESC @ keeps: D across and down. (Automatic line feed shows in the events.)
+-- what a start has set and ESC @ keeps: D across and down, and the width of the paper. (Automatic line feed shows in the events.)
 pub record Kept : Type 0 where
   pub dAcross : ℕ
   pub dDown : ℕ
+  pub paper : ℕ
 
 -- what is kept, what the width of letters and of relative moves depends on, whether 80h to 9Fh print, the units of an image column, the measures,
 -- the stops
@@ -56,10 +57,15 @@ width pitch spacing wide once reduced proportional =
       proportional = proportional;
     }
 
--- of a start, accepted or refused
+abbrev pub keeping : (dAcross dDown paper : ℕ) → Kept
+keeping dAcross dDown paper = record { dAcross = dAcross; dDown = dDown; paper = paper }
+
+-- of a start: those asked for, if it is accepted, by the paper's numbers again
 abbrev pub keptBy : StartSettings → Kept
 keptBy r =
-    record { dAcross = pick (eqb (r .resolution) 203) 203 300; dDown = pick (eqb (r .resolution) 203) 200 300 }
+    pick (both (either (eqb (r .resolution) 300) (eqb (r .resolution) 203)) (within 7200 28800 (r .width)))
+    (pick (eqb (r .resolution) 203) (keeping 203 200 (r .width)) (keeping 300 300 (r .width)))
+    (keeping 300 300 28800)
 
 -- at a start, and after ESC @: the paper's numbers again, not the rules' power-on
 abbrev pub atStart : Kept → InForce
@@ -70,7 +76,7 @@ atStart k =
       draft = false;
       upper = true;
       step = 0;
-      measures = record { left = 0; right = 28800; page = 39600; skip = 0; line = 600 };
+      measures = record { left = 0; right = k .paper; page = 39600; skip = 0; line = 600 };
       lists =
           record {
             columns = 8 ∷ 16 ∷ 24 ∷ 32 ∷ 40 ∷ 48 ∷ 56 ∷ 64 ∷ 72 ∷ [];

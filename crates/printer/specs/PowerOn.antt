@@ -3,15 +3,14 @@ use Prim.Native.Nat.{ℕ, _-_}
 use mathlib.Core.Bool.{true, false}
 use mathlib.Core.List.{[], _∷_, _++_}
 use lib.ListN.{replicate}
-use Rattle.printer.specs.Units.{paperWidth}
 use Rattle.printer.specs.Settings.{at, widthOf, emphasisOf, scriptOf, faceOf, marginsOf, paperOf, settingsOf}
 use Rattle.printer.specs.Types.{Pitch, Printer, Settings, Setup, Stops, TabStops, Waiting}
 
--- 10 cpi; font, country, spacing and style 0; left 0, right 28,800; page 39,600, skip 0, line 600; letter quality; upper codes print
+-- 10 cpi; font, country, spacing and style 0; left 0, right the paper's width; page 39,600, skip 0, line 600; letter quality; upper codes print
 abbrev pub powerOnSettings : Setup → Settings
 powerOnSettings t =
     settingsOf t (widthOf Pitch.Cpi10 0 false false false false) (emphasisOf false false false false) (scriptOf false false)
-    (faceOf 0 0 0 false false false) (marginsOf 0 paperWidth) (paperOf 39600 0 600) false true
+    (faceOf 0 0 0 false false false) (marginsOf 0 (t .width .0)) (paperOf 39600 0 600) false true
 
 -- the room of a list of stops
 abbrev pub stopRoom : ℕ

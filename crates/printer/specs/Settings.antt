@@ -25,6 +25,10 @@ skipOf s = s .paper .skip .0
 abbrev pub lineOf : Settings → ℕ
 lineOf s = s .paper .line .0
 
+-- the width of the paper
+abbrev pub paperWidthOf : Settings → ℕ
+paperWidthOf s = s .setup .width .0
+
 -- the edge: page length less skip
 abbrev pub edgeOf : Settings → ℕ
 edgeOf s = pageOf s - skipOf s

@@ -28,9 +28,12 @@ columnDots r n = dots (perInchAcross r) n
 abbrev pub rowDots : Resolution → ℕ → Dots
 rowDots r n = dots (perInchDown r) n
 
--- the width that is printed on: 80 columns at 10 cpi
-abbrev pub paperWidth : ℕ
-paperWidth = 28800
+-- the narrowest and the widest paper: 20 and 80 columns at 10 cpi
+abbrev pub narrowestPaper : ℕ
+narrowestPaper = 7200
+
+abbrev pub widestPaper : ℕ
+widestPaper = 28800
 
 -- the shortest page, which also remains above a perforation skip, and the longest
 abbrev pub shortestPage : ℕ

@@ -3,6 +3,7 @@ pub mod answers;
 pub mod commands;
 pub mod records;
 pub mod settings;
+pub mod starting;
 pub mod state;
 pub mod stops;
 pub mod units;

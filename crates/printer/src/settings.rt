@@ -6,12 +6,14 @@ use crate::units::Units;
 pub struct StartSettings {
     pub resolution: u32,
     pub autofeed: bool,
+    pub width: u32,
 }
 
-// What ESC @ keeps: the settings of the start.
+// What ESC @ keeps: the settings of the start. `width` is that of the paper.
 pub struct Setup {
     pub resolution: Resolution,
     pub autofeed: bool,
+    pub width: Units,
 }
 
 pub enum Pitch {

@@ -60,7 +60,7 @@ fn power_on_settings(setup: Setup) -> Settings
     ensures { λ r. ⌜ r ≡ powerOnSettings setup ⌝ }
 {
     let left = Units(0);
-    let right = Printer::WIDTH;
+    let right = setup.width;
     let page = Printer::POWER_ON_PAGE;
     let skip = Units(0);
     let line = Printer::POWER_ON_LINE;
@@ -131,8 +131,11 @@ impl Printer {
     // The page at power-on.
     pub const POWER_ON_PAGE: Units = Units(39600);
 
-    // The width that is printed on: 80 columns at 10 cpi.
-    pub const WIDTH: Units = Units(28800);
+    // The narrowest paper: 20 columns at 10 cpi.
+    pub const LEAST_WIDTH: Units = Units(7200);
+
+    // The widest paper: 80 columns at 10 cpi.
+    pub const MOST_WIDTH: Units = Units(28800);
 
     // The line amount at power-on.
     pub const POWER_ON_LINE: Units = Units(600);

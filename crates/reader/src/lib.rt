@@ -5,42 +5,35 @@ use printer::answers::Report;
 use printer::answers::Started;
 use printer::settings::Setup;
 use printer::settings::StartSettings;
+use printer::starting::plain_start;
+use printer::starting::setup_of;
+use printer::starting::usable;
 use printer::state::Printer;
-use printer::units::Resolution;
 use registers::COUNT;
 use registers::pack::pack;
 use registers::unpack::unpack;
 ghost use mathlib.Core.Path.{_≡_};
-ghost use Rattle.printer.specs.Calls.{setup, startedWith};
+ghost use Rattle.printer.specs.Calls.{startedWith};
 ghost use Rattle.printer.specs.Promises.{StartPromise, ReadPromise, LentPromise};
 
-// The power-on state for the settings, with an answer.
-fn started(answer: Answer, resolution: Resolution, autofeed: bool) -> Started
-    ensures { λ r. ⌜ r ≡ startedWith answer (setup resolution autofeed) ⌝ }
+// The power-on state, with an answer.
+fn started(answer: Answer, setup: Setup) -> Started
+    ensures { λ r. ⌜ r ≡ startedWith answer setup ⌝ }
 {
-    let setup = Setup {
-        resolution,
-        autofeed,
-    };
     Started {
         answer,
         printer: Printer::power_on(setup),
     }
 }
 
-// Starts at 300 or 203 dots; refuses any other resolution.
+// Starts with settings that are taken; refuses any other.
 pub fn start(settings: StartSettings) -> Started
     ensures { λ r. ⌜ StartPromise settings r ⌝ }
 {
-    let resolution = settings.resolution;
-    let autofeed = settings.autofeed;
-    if resolution == 300 {
-        return started(Answer::InputUsed, Resolution::Dots300, autofeed);
+    if usable(settings) {
+        return started(Answer::InputUsed, setup_of(settings));
     }
-    if resolution == 203 {
-        return started(Answer::InputUsed, Resolution::Dots203, autofeed);
-    }
-    started(Answer::SettingsRefused, Resolution::Dots300, false)
+    started(Answer::SettingsRefused, setup_of(plain_start()))
 }
 
 // Reads input into records, on a state within its bounds: packed into registers, read on them, and unpacked.

@@ -14,7 +14,7 @@ use Rattle.registers.proofs.Laws.{measured-laid}
 use Rattle.registers.proofs.Laying.{firsts, listed}
 
 abbrev started : Setup → List ℕ → List ℕ
-started t m = stores columnCells (stores powerOnCells (stores (setupCells t) (take 4 m ++ replicate 133 0)))
+started t m = stores columnCells (stores (powerOnCells (t .width)) (stores (setupCells t) (take 4 m ++ replicate 134 0)))
 
 pub power-on-words : (t : Setup) (m : List ℕ) → 4 ≤ length m → measured (started t m) ≡ words (staleIn m) (powerOn t)
 unfolding firsts laid styleOf

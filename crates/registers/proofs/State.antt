@@ -120,7 +120,7 @@ image-few p (Waiting.ImageData d n) h = h .1 .0
 module _ {p : Printer} (t : Typed p) (a : Accepted p) where
   pub small : Small (p .settings)
   small =
-      let b = a .settings .1 .1 .1 .1 .1 .1 in
+      let b = a .settings .1 .1 .1 .1 .1 .1 .1 .1 in
       let c : p .settings .face .country ≤ 255 = country-small _ (passed _ (b .1 .0)) in
       (omega arith, (t .font, (c, omega arith)))
 
@@ -153,9 +153,9 @@ module _ (m : List ℕ) (long : length m ≡ registerCount) where
         font = omega arith;
         stops =
             record {
-              columns = part-long 39 32 m (omega arith);
-              lines = part-long 72 32 m (omega arith);
-              gathered = part-long 105 32 m (omega arith);
+              columns = part-long 40 32 m (omega arith);
+              lines = part-long 73 32 m (omega arith);
+              gathered = part-long 106 32 m (omega arith);
             };
         waiting = waiting-typed m;
       }

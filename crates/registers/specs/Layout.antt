@@ -5,7 +5,7 @@ use mathlib.Core.List.{List, [], _∷_, _++_}
 use Rattle.printer.specs.Tools.{pick}
 use Rattle.printer.specs.Units.{perInchAcross, perInchDown}
 use Rattle.printer.specs.Records.{styleOf}
-use Rattle.printer.specs.Settings.{leftOf, rightOf, pageOf, skipOf, lineOf, advanceOf, columnOf, acrossOf, downOf}
+use Rattle.printer.specs.Settings.{leftOf, rightOf, paperWidthOf, pageOf, skipOf, lineOf, advanceOf, columnOf, acrossOf, downOf}
 use Rattle.printer.specs.declared.settings.Pitch.{Pitch}
 use Rattle.printer.specs.declared.settings.Settings.{Settings}
 use Rattle.printer.specs.declared.state.Place.{Place}
@@ -16,7 +16,7 @@ use Rattle.registers.specs.declared.pending.Pending.{Pending}
 
 -- how many there are
 abbrev pub registerCount : ℕ
-registerCount = 137
+registerCount = 138
 
 abbrev pub flag : Bool → ℕ
 flag on = pick on 1 0
@@ -43,11 +43,11 @@ pendingWords v l = v .kind ∷ v .command ∷ v .argument ∷ v .columns ∷ l
 abbrev pub placeWords : Place → List ℕ → List ℕ
 placeWords x l = acrossOf x ∷ downOf x ∷ l
 
--- 6 to 33
+-- 6 to 34
 abbrev pub settingsWords : Settings → List ℕ → List ℕ
 settingsWords s l =
     leftOf s ∷ rightOf s ∷ pageOf s ∷ skipOf s ∷ lineOf s ∷
-    perInchAcross (s .setup .resolution) ∷ perInchDown (s .setup .resolution) ∷ flag (s .setup .autofeed) ∷
+    perInchAcross (s .setup .resolution) ∷ perInchDown (s .setup .resolution) ∷ flag (s .setup .autofeed) ∷ paperWidthOf s ∷
     pitchNumber (s .width .pitch) ∷ s .width .spacing ∷ flag (s .width .wide) ∷ flag (s .width .wideonce) ∷
     flag (s .width .reduced) ∷ flag (s .width .proportional) ∷
     flag (s .emphasis .bold) ∷ flag (s .emphasis .doublestrike) ∷ flag (s .emphasis .italic) ∷ flag (s .emphasis .underline) ∷
@@ -57,7 +57,7 @@ settingsWords s l =
     flag (s .draft) ∷ flag (s .upperprints) ∷
     l
 
--- 34 to 36
+-- 35 to 37
 abbrev pub derivedWords : Derived → List ℕ → List ℕ
 derivedWords d l = d .style ∷ d .advance ∷ d .column ∷ l
 
@@ -65,7 +65,7 @@ derivedWords d l = d .style ∷ d .advance ∷ d .column ∷ l
 abbrev pub listWords : TabStops → List ℕ → List ℕ
 listWords t l = t .count ∷ (t .stops ++ l)
 
--- 37; and the lists from 38, 71 and 104
+-- 38; and the lists from 39, 72 and 105
 abbrev pub stopsWords : Stops → List ℕ → List ℕ
 stopsWords t l = flag (t .lineset) ∷ listWords (t .columns) (listWords (t .lines) (listWords (t .gathered) l))
 

@@ -17,6 +17,7 @@ use Rattle.printer.specs.declared.settings.Width.{Width}
 use Rattle.printer.specs.declared.state.Place.{Place}
 use Rattle.printer.specs.declared.stops.Stops.{Stops}
 use Rattle.printer.specs.declared.stops.TabStops.{TabStops}
+use Rattle.printer.specs.declared.units.Units.{Units}
 use Rattle.registers.specs.declared.pending.Pending.{Pending}
 use Rattle.registers.specs.Layout.{flag, pitchNumber}
 
@@ -33,28 +34,28 @@ lengthCells x y =
     (6, x .left .0) ∷ (7, x .right .0) ∷ (8, y .page .0) ∷ (9, y .skip .0) ∷ (10, y .line .0) ∷ []
 
 abbrev pub setupCells : Setup → List (ℕ × ℕ)
-setupCells s = (11, perInchAcross (s .resolution)) ∷ (12, perInchDown (s .resolution)) ∷ (13, flag (s .autofeed)) ∷ []
+setupCells s = (11, perInchAcross (s .resolution)) ∷ (12, perInchDown (s .resolution)) ∷ (13, flag (s .autofeed)) ∷ (14, s .width .0) ∷ []
 
 abbrev pub widthCells : Width → List (ℕ × ℕ)
 widthCells w =
-    (14, pitchNumber (w .pitch)) ∷ (15, w .spacing) ∷ (16, flag (w .wide)) ∷ (17, flag (w .wideonce)) ∷
-    (18, flag (w .reduced)) ∷ (19, flag (w .proportional)) ∷ []
+    (15, pitchNumber (w .pitch)) ∷ (16, w .spacing) ∷ (17, flag (w .wide)) ∷ (18, flag (w .wideonce)) ∷
+    (19, flag (w .reduced)) ∷ (20, flag (w .proportional)) ∷ []
 
 abbrev pub emphasisCells : Emphasis → Script → List (ℕ × ℕ)
 emphasisCells e s =
-    (20, flag (e .bold)) ∷ (21, flag (e .doublestrike)) ∷ (22, flag (e .italic)) ∷ (23, flag (e .underline)) ∷
-    (24, flag (s .superscript)) ∷ (25, flag (s .subscript)) ∷ []
+    (21, flag (e .bold)) ∷ (22, flag (e .doublestrike)) ∷ (23, flag (e .italic)) ∷ (24, flag (e .underline)) ∷
+    (25, flag (s .superscript)) ∷ (26, flag (s .subscript)) ∷ []
 
 abbrev pub faceCells : Face → List (ℕ × ℕ)
 faceCells f =
-    (26, f .font) ∷ (27, f .country) ∷ (28, f .outline) ∷ (29, flag (f .doubleheight)) ∷ (30, flag (f .italictable)) ∷
-    (31, flag (f .download)) ∷ []
+    (27, f .font) ∷ (28, f .country) ∷ (29, f .outline) ∷ (30, flag (f .doubleheight)) ∷ (31, flag (f .italictable)) ∷
+    (32, flag (f .download)) ∷ []
 
 abbrev pub printingCells : (draft upperprints : Bool) → List (ℕ × ℕ)
-printingCells draft upperprints = (32, flag draft) ∷ (33, flag upperprints) ∷ []
+printingCells draft upperprints = (33, flag draft) ∷ (34, flag upperprints) ∷ []
 
 abbrev pub derivedCells : Settings → List (ℕ × ℕ)
-derivedCells s = (34, styleOf s) ∷ (35, advanceOf s) ∷ (36, columnOf s) ∷ []
+derivedCells s = (35, styleOf s) ∷ (36, advanceOf s) ∷ (37, columnOf s) ∷ []
 
 -- all of the settings
 unfoldable pub settingsStored : Settings → List ℕ → List ℕ
@@ -77,17 +78,17 @@ listStored from t m = over (from + 1) (t .stops) (set m from (t .count))
 
 unfoldable pub stopsStored : Stops → List ℕ → List ℕ
 stopsStored t m =
-    listStored 104 (t .gathered) (listStored 71 (t .lines) (listStored 38 (t .columns) (set m 37 (flag (t .lineset)))))
+    listStored 105 (t .gathered) (listStored 72 (t .lines) (listStored 39 (t .columns) (set m 38 (flag (t .lineset)))))
 
 -- what registers say is waited for, as it stands
 abbrev pub staleIn : List ℕ → Pending
 staleIn m = record { kind = getD m 0 0; command = getD m 1 0; argument = getD m 2 0; columns = getD m 3 0 }
 
 -- the settings at power-on that are not 0, but for those of the start: right margin, page, line, pitch, upper codes print
-abbrev pub powerOnCells : List (ℕ × ℕ)
-powerOnCells = (7, 28800) ∷ (8, 39600) ∷ (10, 600) ∷ (14, 10) ∷ (33, 1) ∷ []
+abbrev pub powerOnCells : Units → List (ℕ × ℕ)
+powerOnCells width = (7, width .0) ∷ (8, 39600) ∷ (10, 600) ∷ (15, 10) ∷ (34, 1) ∷ []
 
 -- the horizontal stops at power-on: nine, at columns 8, 16 .. 72
 abbrev pub columnCells : List (ℕ × ℕ)
 columnCells =
-    (38, 9) ∷ (39, 8) ∷ (40, 16) ∷ (41, 24) ∷ (42, 32) ∷ (43, 40) ∷ (44, 48) ∷ (45, 56) ∷ (46, 64) ∷ (47, 72) ∷ []
+    (39, 9) ∷ (40, 8) ∷ (41, 16) ∷ (42, 24) ∷ (43, 32) ∷ (44, 40) ∷ (45, 48) ∷ (46, 56) ∷ (47, 64) ∷ (48, 72) ∷ []

@@ -14,6 +14,7 @@ use crate::LINE_STOPS;
 use crate::LINES_SET;
 use crate::OUTLINE;
 use crate::PAGE;
+use crate::PAPER_WIDTH;
 use crate::RIGHT;
 use crate::SKIP;
 use crate::SPACING;
@@ -63,15 +64,19 @@ fn settings_within(m: &[u32; COUNT]) -> bool
     ensures { λ r. ⌜ r ≡ holds (settingsBounds (settingsIn (now (m .entry)))) ⌝ }
 {
     let right = m[RIGHT];
+    let width = m[PAPER_WIDTH];
     let page = m[PAGE];
     (m[LEFT] < right)
-        & ((right <= Printer::WIDTH.0)
-            & ((Printer::LEAST_PAGE.0 <= page)
-                & ((page <= Printer::MOST_PAGE.0)
-                    & (leaves(Printer::LEAST_PAGE.0, m[SKIP], page)
-                        & ((m[LINE] <= 5100)
-                            & ((m[SPACING] % 256 <= 127)
-                                & (country_named(m[COUNTRY] % 256) & (m[OUTLINE] % 256 <= 3))))))))
+        & ((right <= width)
+            & ((Printer::LEAST_WIDTH.0 <= width)
+                & ((width <= Printer::MOST_WIDTH.0)
+                    & ((Printer::LEAST_PAGE.0 <= page)
+                        & ((page <= Printer::MOST_PAGE.0)
+                            & (leaves(Printer::LEAST_PAGE.0, m[SKIP], page)
+                                & ((m[LINE] <= 5100)
+                                    & ((m[SPACING] % 256 <= 127)
+                                        & (country_named(m[COUNTRY] % 256)
+                                            & (m[OUTLINE] % 256 <= 3))))))))))
 }
 
 fn place_within(m: &[u32; COUNT]) -> bool

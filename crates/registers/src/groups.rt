@@ -17,6 +17,7 @@ use crate::LEFT;
 use crate::LINE;
 use crate::OUTLINE;
 use crate::PAGE;
+use crate::PAPER_WIDTH;
 use crate::PITCH;
 use crate::PROPORTIONAL;
 use crate::REDUCED;
@@ -99,6 +100,7 @@ pub fn setup_in(m: &[u32; COUNT]) -> Setup
     Setup {
         resolution,
         autofeed: m[AUTO_FEED] == 1,
+        width: Units(m[PAPER_WIDTH]),
     }
 }
 

@@ -13,6 +13,7 @@ use crate::stores::store_setup;
 use crate::stores::whole;
 use printer::settings::Setup;
 use printer::state::Printer;
+use printer::units::Units;
 ghost use mathlib.Core.Path.{_≡_};
 ghost use mathlib.Core.List.{_++_};
 ghost use lib.ListN.{take, replicate};
@@ -22,7 +23,7 @@ ghost use Rattle.registers.specs.Stores.{stores, staleIn, powerOnCells, 
 
 // All registers but those of what is waited for are 0.
 fn clear(m: &mut [u32; COUNT])
-    ensures { λ _. ⌜ now (m .exit) ≡ take 4 (now (m .entry)) ++ replicate 133 0 ⌝ }
+    ensures { λ _. ⌜ now (m .exit) ≡ take 4 (now (m .entry)) ++ replicate 134 0 ⌝ }
 {
     let n = whole(&*m);
     let mut i: usize = ACROSS;
@@ -32,11 +33,11 @@ fn clear(m: &mut [u32; COUNT])
     }
 }
 
-// The settings that are not 0, but for those of the start.
-fn store_settings(m: &mut [u32; COUNT])
-    ensures { λ _. ⌜ now (m .exit) ≡ stores powerOnCells (now (m .entry)) ⌝ }
+// The settings that are not 0, but for those of the start: the right margin is at the paper's width.
+fn store_settings(m: &mut [u32; COUNT], width: Units)
+    ensures { λ _. ⌜ now (m .exit) ≡ stores (powerOnCells width) (now (m .entry)) ⌝ }
 {
-    m[RIGHT] = Printer::WIDTH.0;
+    m[RIGHT] = width.0;
     m[PAGE] = Printer::POWER_ON_PAGE.0;
     m[LINE] = Printer::POWER_ON_LINE.0;
     m[PITCH] = 10;
@@ -64,9 +65,10 @@ pub fn power_on(m: &mut [u32; COUNT], setup: Setup)
     ensures { λ _. ⌜ now (m .exit) ≡ words (staleIn (now (m .entry))) (powerOn setup) ⌝ }
 {
     let n = whole(&*m);
+    let width = setup.width;
     clear(&mut *m);
     store_setup(&mut *m, setup);
-    store_settings(&mut *m);
+    store_settings(&mut *m, width);
     store_columns(&mut *m);
     keep_widths(m);
 }

@@ -18,6 +18,7 @@ use crate::LEFT;
 use crate::LINE;
 use crate::OUTLINE;
 use crate::PAGE;
+use crate::PAPER_WIDTH;
 use crate::PITCH;
 use crate::PROPORTIONAL;
 use crate::REDUCED;
@@ -101,6 +102,7 @@ pub(crate) fn store_setup(m: &mut [u32; COUNT], s: Setup)
     m[DOTS_ACROSS] = dots_across(resolution);
     m[DOTS_DOWN] = dots_down(resolution);
     m[AUTO_FEED] = flag(s.autofeed);
+    m[PAPER_WIDTH] = s.width.0;
 }
 
 fn store_width(m: &mut [u32; COUNT], w: Width)

@@ -48,7 +48,7 @@ seenAt a b l i = seenOf a b (recordAt l i)
 
 -- The forward reading
 
--- the last letter asked for on the lines before this one of the present page, and on this line: one more than its place, or 0
+-- the last letter asked for on the lines before this one of the present page, and since the last LN or CL: one more than its place, or 0
 pub record Found : Type 0 where
   pub kept : ℕ
   pub line : ℕ

@@ -1,7 +1,7 @@
 // A program: runs worked cases, and writes the records of each as lines of hex, a line for each answer but 0, and an empty line.
 //
-// A case is: dots an inch, the allowance and the output length of a reading call, the length of the input (two bytes each, low byte first),
-// automatic line feed (0 or 1), the input. It is read by calls until all is read or one reads nothing; what each of them read is read again
+// A case is: dots an inch, the allowance and the output length of a reading call, the length of the input, the width of the paper (two bytes
+// each, low byte first), automatic line feed (0 or 1), the input. It is read by calls until all is read or one reads nothing; what each of them read is read again
 // by a call for each byte, and in two parts by calls to which the state is lent.
 use libc::STDIN_FILENO;
 use libc::STDOUT_FILENO;
@@ -20,7 +20,7 @@ const MOST: usize = 512;
 const ROOM: usize = 2 * MOST * Record::SIZE;
 
 // The bytes before the input.
-const HEAD: usize = 9;
+const HEAD: usize = 11;
 
 // The allowance and the output length of each call.
 struct Limits {
@@ -225,7 +225,8 @@ fn next_case() -> bool {
     }
     let settings = StartSettings {
         resolution: word(head[0], head[1]),
-        autofeed: head[8] != 0,
+        autofeed: head[10] != 0,
+        width: word(head[8], head[9]),
     };
     let limits = Limits {
         allowance: word(head[2], head[3]) as usize,

@@ -26,6 +26,8 @@ fn ascending(count: u32) -> Stops {
 fn numbers() {
     assert!(accepts(|s| s.resolution = 203));
     assert!(!accepts(|s| s.resolution = 200));
+    assert!(!accepts(|s| s.paper_width = 28_799));
+    assert!(!accepts(|s| s.paper_width = 28_801));
     assert!(accepts(|s| s.pitch = 15));
     assert!(!accepts(|s| s.pitch = 11));
     assert!(accepts(|s| s.line_amount = 5_100));
@@ -37,6 +39,22 @@ fn numbers() {
     assert!(!accepts(|s| s.country = 14));
     assert!(accepts(|s| s.character_style = 3));
     assert!(!accepts(|s| s.character_style = 4));
+}
+
+#[test]
+fn narrow_paper() {
+    let on_paper = |width, right| {
+        accepts(|s| {
+            s.paper_width = width;
+            s.right = right;
+        })
+    };
+    assert!(on_paper(7_200, 7_200) && !on_paper(7_200, 7_201));
+    assert!(!on_paper(7_199, 7_199) && !on_paper(7_199, 1));
+    assert!(on_paper(7_201, 7_200) && on_paper(7_201, 7_201) && !on_paper(7_201, 7_202));
+    assert!(on_paper(28_799, 28_799) && !on_paper(28_799, 28_800));
+    assert!(on_paper(28_800, 28_800) && !on_paper(28_801, 28_800));
+    assert!(!on_paper(0, 1) && !on_paper(u32::MAX, 28_800));
 }
 
 #[test]

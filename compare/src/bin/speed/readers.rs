@@ -1,6 +1,7 @@
 //! The three readers, and what they are measured on.
 
 use compare::inputs::{input, NAMES};
+use compare::WIDEST;
 use ierbulosc::{Settings, State};
 
 #[derive(Clone, Copy, PartialEq, Eq, Debug)]
@@ -82,14 +83,14 @@ impl Subject {
                 }
             }
             Reader::Plain => {
-                let (_, mut state) = plain_reader::start(self.dots, false);
+                let (_, mut state) = plain_reader::start(self.dots, false, WIDEST);
                 for piece in input.chunks(self.piece) {
                     let report = plain_reader::read(&mut state, piece, usize::MAX, out);
                     records(&out[..report.written]);
                 }
             }
             Reader::Runs => {
-                let (_, mut state) = plain_reader::start(self.dots, false);
+                let (_, mut state) = plain_reader::start(self.dots, false, WIDEST);
                 for piece in input.chunks(self.piece) {
                     let report = plain_reader::read_in_runs(&mut state, piece, usize::MAX, out);
                     records(&out[..report.written]);

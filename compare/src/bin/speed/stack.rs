@@ -67,6 +67,7 @@ fn measure() -> [usize; 3] {
             let settings = Settings {
                 resolution,
                 auto_feed,
+                ..Settings::default()
             };
             for piece in PIECES {
                 deepest = deepest_reading(&mut stack, &settings, &input, piece).max(deepest);

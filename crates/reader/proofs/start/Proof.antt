@@ -1,37 +1,27 @@
--- The start, by the two resolutions that it takes.
-use Prim.Native.Nat.{ℕ}
-use mathlib.Core.Path.{_≡_}
-use mathlib.Core.Bool.{false}
-use lib.Dec.{eqb}
-use native.Mathlib.Omega.{arith}
+-- The start, by the test of its settings.
+use mathlib.Core.Path.{sym, _∙_}
 use borrow.Author.Needs.{needs}
-use borrow.Author.Tests.{eq-eqb, ne-eqb}
 use Rattle.printer.specs.Calls.{startOf}
 use Rattle.printer.proofs.Answering.{start-promise}
 use Rattle.reader.proofs.start.Statement.{statement}
 use Rattle.reader.proofs.start.Tie as tie
 
--- 300 is not 203
-other : (n : ℕ) → n ≡ 300 → eqb n 203 ≡ false
-other n e = ne-eqb n 203 (omega arith)
-
 returns : tie.Need-returns
 unfolding startOf
 returns c =
-    let e = c .before .if1 .taken in
-    start-promise _ _ (rw (eq-eqb _ _ e, other _ e) (c .started .ensures))
+    let i = c .before .before in
+    start-promise _ _ (rw (sym (i .before .usable .ensures) ∙ i .if1 .taken) (rw (c .before .setup-of .ensures) at (c .started .ensures)))
 
 returns-2 : tie.Need-returns-2
 unfolding startOf
 returns-2 c =
-    start-promise _ _ (rw (ne-eqb _ _ (c .before .before .if1 .left), eq-eqb _ _ (c .before .if2 .taken)) (c .started2 .ensures))
-
-returns-3 : tie.Need-returns-3
-unfolding startOf
-returns-3 c =
-    start-promise _ _ (rw (ne-eqb _ _ (c .before .before .if1 .left), ne-eqb _ _ (c .before .if2 .left)) (c .started3 .ensures))
+    let p = c .before .before in
+    let i = p .before in
+    start-promise _ _
+    (rw (sym (i .before .usable .ensures) ∙ i .if1 .left) (rw (c .before .setup-of2 .ensures, p .plain-start .ensures) at (c .started2 .ensures)))
 
 pub start-spec : {M : Type 1} → statement M
 start-spec =
     tie.close
-    (tie.spec (λ c κs. search needs) returns (λ c κs. search needs) returns-2 (λ c κs. search needs) returns-3)
+    (tie.spec (λ c κs. search needs) (λ c κs. search needs) (λ c κs. search needs) returns (λ c κs. search needs)
+    (λ c κs. search needs) (λ c κs. search needs) returns-2)

@@ -3,7 +3,6 @@ use borrow.Author.Needs.{needs}
 use borrow.Author.Tests.{leb-true}
 use lib.Dec.{leb, ltb}
 use native.Mathlib.Omega.{arith}
-use Rattle.printer.specs.Units.{paperWidth}
 use Rattle.printer.proofs.Choices.{both-right}
 use Rattle.interpreter.specs.Reaching.{reach}
 use Rattle.interpreter.proofs.margins.right_column.Statement.{statement}
@@ -13,7 +12,7 @@ cast-t12 : tie.Need-cast-t12
 cast-t12 c =
     let a = c .before .before .before .before .args in
     let n = c .before .before .before .columns .result in
-    record { fits = omega (arith, leb-true n paperWidth (both-right (ltb (a .left .0) n) (leb n paperWidth) (c .if1 .taken))) }
+    record { fits = omega (arith, leb-true n (a .paper .0) (both-right (ltb (a .left .0) n) (leb n (a .paper .0)) (c .if1 .taken))) }
 
 returns : tie.Need-returns
 unfolding reach

@@ -5,7 +5,7 @@ use Rattle.printer.proofs.state.power_on_settings.Tie as tie
 
 returns : tie.Need-returns
 returns c =
-    let setup = c .before .before .args .setup in
+    let setup = c .before .before .before .args .setup in
     simp (c .power-on-face .ensures setup, c .before .power-on-width .ensures setup)
 
 pub power-on-settings-spec : {M : Type 1} → statement M

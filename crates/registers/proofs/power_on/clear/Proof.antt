@@ -11,13 +11,13 @@ use Rattle.registers.proofs.power_on.clear.Statement.{statement}
 use Rattle.registers.proofs.power_on.clear.Tie as tie
 
 abbrev zeros : List ℕ
-zeros = replicate 133 0
+zeros = replicate 134 0
 
 abbrev Inv-loop : tie.InvT-loop
-Inv-loop m₀ n i₀ m i = (4 ≤ i) × ((i ≤ 137) × Laid 4 zeros m₀ m (i - 4))
+Inv-loop m₀ n i₀ m i = (4 ≤ i) × ((i ≤ 138) × Laid 4 zeros m₀ m (i - 4))
 
 abbrev μ-loop : tie.MeasureT-loop
-μ-loop m₀ n i₀ m i = 137 - i
+μ-loop m₀ n i₀ m i = 138 - i
 
 loop-holds : tie.Need-loop-holds Inv-loop μ-loop
 loop-holds c =
@@ -32,7 +32,7 @@ loop-again c =
     let i = l .loop .i in
     let low : 4 ≤ i = l .loop .inv .0 in
     let e : 4 + (i - 4) ≡ i = omega arith in
-    let f : getD zeros (i - 4) 0 ≡ 0 = getD-replicate 133 (i - 4) 0 0 (omega arith) in
+    let f : getD zeros (i - 4) 0 ≡ 0 = getD-replicate 134 (i - 4) 0 0 (omega arith) in
     let g : (i + 1) - 4 ≡ (i - 4) + 1 = omega arith in
     (omega arith, (omega arith, rw g (rw (f, e) at (laid-more 4 zeros m (omega (arith, w .whole .ensures .1)) {i = i - 4} (omega arith) (l .loop .inv .1 .1)))))
 
@@ -41,7 +41,7 @@ returns c =
     let l = c .before in
     let w = l .before in
     let m = now (w .before .before .args .m) in
-    let d : drop 137 m ≡ [] = drop-of-length-le m {i = 137} (omega (arith, w .whole .ensures .1)) in
+    let d : drop 138 m ≡ [] = drop-of-length-le m {i = 138} (omega (arith, w .whole .ensures .1)) in
     laid-all 4 zeros m (omega (arith, w .whole .ensures .1)) {i = l .loop .i - 4} (l .loop .inv .1 .1) (omega arith) ∙ rw d
 
 pub clear-spec : {M : Type 1} → statement M

@@ -13,7 +13,7 @@ returns c =
     let s = k .before .before in
     let u = s .before .before in
     let z = u .before .before in
-    let w = z .before .before in
+    let w = z .before .before .before in
     let a = w .before .before .args in
     c .keep-widths .ensures
     ∙ rw (k .store-columns .ensures, s .store-settings .ensures, u .store-setup .ensures, z .clear .ensures)
