@@ -47,7 +47,7 @@ enum {
 enum {
     ESCP_RECORD_SIZE = 14,            /* the bytes of a record */
     ESCP_ROOM = 2 * ESCP_RECORD_SIZE, /* must be left in the output to read a byte, which writes at most 2 records */
-    ESCP_REGISTERS = 138,             /* the numbers of a state */
+    ESCP_REGISTERS = 140,             /* the numbers of a state */
     ESCP_TAB_STOPS = 32,              /* the room of a list of tab stops */
     ESCP_COLUMNS = 32,                /* the most horizontal tab stops */
     ESCP_LINES = 16                   /* the most vertical tab stops */
@@ -86,23 +86,30 @@ typedef struct escp_stops {
 enum {
     ESCP_NOTHING = 0,
     ESCP_SECOND_BYTE = 1,     /* an escape's second byte */
-    ESCP_FIRST_ARGUMENT = 2,  /* the first argument of an escape, or its only one; the third byte of ESC i */
-    ESCP_SECOND_ARGUMENT = 3, /* the second argument; that of ESC C after 0; that of ESC i after "a" */
+    ESCP_FIRST_ARGUMENT = 2,  /* the first argument of an escape, or its only one; the third byte of ESC i; the mode of ESC * */
+    ESCP_SECOND_ARGUMENT = 3, /* the second argument; that of ESC C after 0; that of ESC i after "a"; the low byte of ESC * */
     ESCP_STOP_LIST = 4,       /* a byte of a tab stop list */
-    ESCP_IMAGE_DATA = 5       /* image data */
+    ESCP_IMAGE_DATA = 5,      /* image data */
+    ESCP_THIRD_ARGUMENT = 6   /* the third argument: the high byte of ESC * */
 };
 
 typedef struct escp_state {
     /*
      * What is waited for. The command is an escape's second byte: of kind 2 one that takes arguments, as 41h for ESC A,
      * or i, which takes a third byte; of kind 3 one that takes two ($, \, K, L, Y or Z), or C, whose first argument is
-     * then 0, or i, whose third byte is then 61h, "a"; of kind 4 B or D; of kind 5 K, L, Y or Z. A number that the kind
-     * does not use is 0.
+     * then 0, or i, whose third byte is then 61h, "a", or *, whose first argument is then a mode that is listed; of kind 4
+     * B or D; of kind 6 *. Kind 5 has none. A number that the kind does not use is 0.
+     *
+     * The modes of images, by number: 0, 1, 2, 3, 4 and 6 have one byte a column, 60, 30, 30, 15, 45 and 40 units wide; 32,
+     * 33, 38, 39 and 40 have three, 60, 30, 40, 20 and 10 units wide. The data of ESC K, L, Y and Z are modes 0, 1, 2 and 3.
      */
-    uint32_t kind;          /* ESCP_NOTHING to ESCP_IMAGE_DATA */
-    uint32_t command;       /* kinds 2 to 5 */
-    uint32_t argument;      /* kind 3: the one that came, 0 to 255, of C 0, of i 61h; kind 4: the list byte before, 0 at the beginning */
-    uint32_t image_columns; /* kind 5: the image columns left, 1 to 65535 */
+    uint32_t kind;          /* ESCP_NOTHING to ESCP_THIRD_ARGUMENT */
+    uint32_t command;       /* kinds 2, 3, 4 and 6 */
+    uint32_t argument;      /* kinds 3 and 6: the last that came, 0 to 255, of C 0, of i 61h, of * in kind 3 the mode's number;
+                               kind 4: the list byte before, 0 at the beginning */
+    uint32_t image_mode;    /* kinds 5 and 6: the mode's number */
+    uint32_t image_byte;    /* kind 5: which byte of its column comes next: 1 to 3 in modes of three bytes, 1 in the others */
+    uint32_t image_columns; /* kind 5: the image columns left, the begun one included, 1 to 65535 */
 
     /* Where the next letter stands. */
     uint32_t across; /* from the left of the paper; left to right, both included */
@@ -197,7 +204,7 @@ uint8_t escp_read(escp_state *state, const uint8_t *input, size_t input_length, 
 /* The marks of records: two letters, the first in the low byte. */
 enum {
     ESCP_TX = 0x5854, /* a letter: all fields but pages and reason */
-    ESCP_IM = 0x4D49, /* a byte of image data: column, row, byte, advance */
+    ESCP_IM = 0x4D49, /* a byte of image data: column, row, byte, font, advance */
     ESCP_LN = 0x4E4C, /* a line fed or a page turned: the new row, pages */
     ESCP_CL = 0x4C43, /* the TX and IM since the last LN, CL or start are void */
     ESCP_NO = 0x4F4E  /* what was passed over: byte, reason */
@@ -209,7 +216,7 @@ enum { ESCP_NEW_TOP = 255 };
 /* The reasons of a NO. */
 enum {
     ESCP_UNLISTED = 1,    /* no control byte, escape or third byte of ESC i that is listed */
-    ESCP_NOT_ALLOWED = 2, /* an argument or a setting that is not allowed */
+    ESCP_NOT_ALLOWED = 2, /* an argument or a setting that is not allowed; a mode of ESC * that is not listed */
     ESCP_PAST_LIMITS = 3, /* past margin, page or stop limits */
     ESCP_NO_FIT = 4,      /* a letter or an image column that does not fit */
     ESCP_NO_STOP = 5      /* no stop to the right */
@@ -229,10 +236,10 @@ typedef struct escp_record {
     uint16_t column;  /* dot column */
     uint16_t row;     /* dot row */
     uint8_t byte;     /* TX, IM: as received; NO: see above */
-    uint8_t font;     /* the ESC k number */
+    uint8_t font;     /* TX: the ESC k number; IM: which byte of its column, 1 to 3 from the top, where one has three, else 0 */
     uint16_t style;   /* bits, see above */
     uint8_t country;  /* the ESC R number */
-    uint16_t advance; /* in units of 1/3600 inch */
+    uint16_t advance; /* in units of 1/3600 inch; IM: the width of its column, in each of its bytes */
     uint8_t pages;    /* LN: the pages turned, or ESCP_NEW_TOP */
     uint8_t reason;   /* NO: ESCP_UNLISTED to ESCP_NO_STOP */
 } escp_record;

@@ -38,12 +38,13 @@ fn whole_reading(random: &mut Random) -> Call {
 
 /// Registers of any sort; some are accepted, many are not.
 pub fn arbitrary(random: &mut Random) -> Registers {
-    match random.weighted(&[50, 25, 5, 12, 7, 1]) {
+    match random.weighted(&[46, 23, 5, 12, 6, 7, 1]) {
         0 => of_plain(random, states::arbitrary),
         1 => changed(random),
         2 => disagreeing(random),
         3 => with_any_waiting(random),
-        4 => with_unseen_parts(random),
+        4 => with_any_image(random),
+        5 => with_unseen_parts(random),
         _ => any_numbers(random),
     }
 }
@@ -52,8 +53,7 @@ pub fn arbitrary(random: &mut Random) -> Registers {
 fn of_plain(random: &mut Random, make: fn(&mut Random) -> plain_reader::State) -> Registers {
     loop {
         let state = make(random);
-        let thirty = random.pick(b"LY");
-        if let Some(registers) = registers(&state, thirty) {
+        if let Some(registers) = registers(&state) {
             return registers;
         }
     }
@@ -142,7 +142,7 @@ const A_AND_OTHERS: [u32; 12] = [
 /// Something waited for, with numbers of other kinds than its own.
 fn with_any_waiting(random: &mut Random) -> Registers {
     let command = match random.below(9) {
-        0 => 0,
+        0 => random.pick(b"\0\0*"),
         1 => random.byte(),
         2 => b'C',
         3 => random.pick(b"BD"),
@@ -158,13 +158,51 @@ fn with_any_waiting(random: &mut Random) -> Registers {
         _ => random.pick(&[0, 0, 0, 1, 255, 256]),
     };
     let above = random.pick(&[0, 0, 0, 0, 0, 0, 0, 1 << 8, 1 << 16]);
+    let (image_mode, image_byte) = match random.below(4) {
+        0 => (random.pick(&[0, 1, 39]), random.pick(&[0, 1, 2, 3])),
+        _ => (0, 0),
+    };
     Registers {
         kind: random.pick(&[0, 1, 2, 2, 3, 3, 4, 4, 5, 5, 6, 7, 8, 255, 256, 258]),
         command: u32::from(command) + above,
         argument,
+        image_mode,
+        image_byte,
         image_columns: random.pick(&[0, 0, 0, 1, 2, 65_535, 65_536, 65_537]),
         ..accepted(random)
     }
+}
+
+/// Numbers that tell in one of the registers of what is waited for.
+const TELLING: [u32; 24] = [
+    0, 1, 2, 3, 4, 5, 6, 7, 31, 32, 33, 34, 38, 39, 40, 41, 0x2A, 0x4B, 0x69, 72, 255, 256, 65_535,
+    65_536,
+];
+
+/// ESC * or image data waited for, in a mode that may not be listed, with a
+/// number or two set to others.
+fn with_any_image(random: &mut Random) -> Registers {
+    let mode = u32::from(states::a_mode(random));
+    let byte = random.between(1, 3) as u32;
+    let columns = random.pick(&[1, 2, 300, 65_535]);
+    let low = random.byte().into();
+    let star = b'*'.into();
+    let mut waiting: [u32; 6] = match random.below(6) {
+        0 => [ierbulosc::FIRST_ARGUMENT, star, 0, 0, 0, 0],
+        1 => [ierbulosc::SECOND_ARGUMENT, star, mode, 0, 0, 0],
+        2 => [ierbulosc::THIRD_ARGUMENT, star, low, mode, 0, 0],
+        _ => [ierbulosc::IMAGE_DATA, 0, 0, mode, byte, columns],
+    };
+    for _ in 0..random.pick(&[0, 1, 1, 2]) {
+        let number = &mut waiting[random.below(6) as usize];
+        *number = match random.below(4) {
+            0 => number.wrapping_add(random.pick(&[1, 1 << 8, 1 << 16, u32::MAX])),
+            _ => random.pick(&TELLING),
+        };
+    }
+    let mut registers = accepted(random).registers();
+    registers[..6].copy_from_slice(&waiting);
+    Registers::from_registers(registers)
 }
 
 /// Registers inside the bounds with any numbers where no rule looks.

@@ -56,7 +56,7 @@ pub fn fields(state: &mut State) -> Vec<Field<'_>> {
         };
     }
     named! {
-        kind command argument image_columns
+        kind command argument image_mode image_byte image_columns
         across down left right page skip line
         dots_across dots_down auto_feed paper_width
         pitch spacing wide wide_once reduced proportional

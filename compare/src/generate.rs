@@ -5,6 +5,7 @@ use crate::random::Random;
 
 const ESC: u8 = 0x1B;
 const SI: u8 = 0x0F;
+const DC4: u8 = 0x14;
 const CONTROLS: [u8; 10] = [8, 9, 10, 11, 12, 13, 14, 15, 18, 20];
 const PLAIN_ESCAPES: &[u8] = b"022OPPMMggEFGH4455T6677\x0E\x0F\x0E\x0F";
 const ONE_ARGUMENT: &[u8] = b"33A++JJJNNllQQpSxWWw-%tRqk  !!";
@@ -32,6 +33,19 @@ const THIRD_BYTES: [u8; 18] = [
     0xD3,
 ];
 
+/// The modes of ESC * with one byte a column, and with three.
+pub const ONE_BYTE_MODES: [u8; 6] = [0, 1, 2, 3, 4, 6];
+pub const THREE_BYTE_MODES: [u8; 5] = [32, 33, 38, 39, 40];
+
+/// Modes of ESC * beside the listed ones, of other printers, or of other
+/// commands.
+const OTHER_MODES: [u8; 20] = [
+    5, 7, 8, 31, 34, 35, 36, 37, 41, 64, 71, 72, 73, 0x30, 0x80, 0xA0, 0xA7, 255, ESC, b'@',
+];
+
+/// How many columns fit in 360 units, in one mode or another.
+const FIT_IN_A_LETTER: [u16; 7] = [6, 8, 9, 12, 18, 24, 36];
+
 /// An input of so many phrases.
 pub fn input(random: &mut Random, phrases: u64) -> Vec<u8> {
     let mut bytes = Vec::new();
@@ -43,7 +57,7 @@ pub fn input(random: &mut Random, phrases: u64) -> Vec<u8> {
 
 /// Adds one phrase: a run of letters, a command, or a telling group of them.
 pub fn phrase(random: &mut Random, to: &mut Vec<u8>) {
-    match random.weighted(&[20, 22, 12, 22, 10, 6, 6, 4, 2, 3, 2, 2, 4, 1]) {
+    match random.weighted(&[20, 22, 12, 22, 10, 8, 6, 4, 2, 3, 2, 2, 4, 4, 2, 1]) {
         0 => letters(random, to),
         1 => to.push(random.pick(&CONTROLS)),
         2 => to.extend([ESC, random.pick(PLAIN_ESCAPES)]),
@@ -57,6 +71,8 @@ pub fn phrase(random: &mut Random, to: &mut Vec<u8>) {
         10 => random_bytes(random, to),
         11 => stops_past_the_edge(random, to),
         12 => mode_or_status(random, to),
+        13 => image_mode(random, to),
+        14 => image_past_the_margin(random, to),
         _ => to.extend([ESC, b'@']),
     }
 }
@@ -160,22 +176,44 @@ fn relative_move(random: &mut Random) -> i16 {
     }
 }
 
-/// An image command with its data, now and then too little of it.
+/// An image with its data, now and then too little of it.
 fn image(random: &mut Random, to: &mut Vec<u8>) {
-    let count = match random.below(24) {
+    let columns = match random.below(24) {
         0..=2 => 0,
         3..=6 => 1,
         7 => random.pick(&[255, 256, 257]),
         8 if random.flag() => random.pick(&[479, 480, 481, 959, 960, 961]),
-        9 if random.percent(5) => random.pick(&[1_919, 1_920, 1_921, 32_768, 65_535]),
+        9 if random.percent(20) => random.pick(&[1_919, 1_920, 1_921, 32_768, 65_535, 65_535]),
         _ => random.between(2, 12) as u16,
     };
-    let data = match random.below(12) {
-        0 => u64::from(count) / 2,
-        _ => u64::from(count).min(2_000),
+    image_of(random, columns, to);
+}
+
+/// An image of so many columns, by ESC K, L, Y, Z or ESC *, with its data or,
+/// now and then, too little of it, cut anywhere.
+fn image_of(random: &mut Random, columns: u16, to: &mut Vec<u8>) {
+    let bytes = match random.below(6) {
+        0 | 1 => {
+            to.extend([ESC, random.pick(b"KLYZ")]);
+            1
+        }
+        2 => {
+            to.extend([ESC, b'*', random.pick(&ONE_BYTE_MODES)]);
+            1
+        }
+        _ => {
+            to.extend([ESC, b'*', random.pick(&THREE_BYTE_MODES)]);
+            3
+        }
     };
-    to.extend([ESC, random.pick(b"KLYZ")]);
-    to.extend(count.to_le_bytes());
+    to.extend(columns.to_le_bytes());
+    let whole = bytes * u64::from(columns);
+    let data = match random.below(16) {
+        0 => whole / 2,
+        1 => random.below(whole + 1),
+        2 => whole.saturating_sub(random.between(1, bytes)),
+        _ => whole.min(3_000),
+    };
     let begin = to.len();
     for _ in 0..data {
         to.push(random.byte());
@@ -183,6 +221,40 @@ fn image(random: &mut Random, to: &mut Vec<u8>) {
     if data >= 2 && random.flag() {
         to[begin] = ESC;
         to[begin + 1] = b'@';
+    }
+}
+
+/// ESC * with a mode that may not be listed, now and then cut short, so that
+/// what comes next is taken for the rest.
+fn image_mode(random: &mut Random, to: &mut Vec<u8>) {
+    to.extend([random.pick(&[ESC, ESC, ESC, 0x9B]), b'*']);
+    match random.below(10) {
+        0 => return,
+        1..=5 => to.push(random.byte()),
+        6 | 7 => to.push(random.pick(&OTHER_MODES)),
+        8 => to.push(random.pick(&ONE_BYTE_MODES)),
+        _ => to.push(random.pick(&THREE_BYTE_MODES)),
+    }
+    match random.below(8) {
+        0 => {}
+        1 => to.push(random.pick(&[0, 1, 2, 7, b'A', ESC, 255])),
+        _ => to.extend([random.below(4) as u8, 0]),
+    }
+}
+
+/// Margins close together, and an image whose columns end beside the right one.
+fn image_past_the_margin(random: &mut Random, to: &mut Vec<u8>) {
+    let left = random.pick(&[0, 0, 1, 5, 78]);
+    let right = left + random.pick(&[1, 1, 1, 2]);
+    to.extend([ESC, b'!', 0, ESC, b' ', 0, DC4, ESC, b'l', 0]);
+    to.extend([ESC, b'Q', right, ESC, b'l', left]);
+    if random.percent(30) {
+        to.extend([ESC, b'\\', random.between(1, 20) as u8, 0]);
+    }
+    let columns = random.pick(&FIT_IN_A_LETTER) - 1 + random.below(4) as u16;
+    image_of(random, columns, to);
+    if random.percent(70) {
+        to.extend([ESC, b'l', 0, ESC, b'Q', 80]);
     }
 }
 
@@ -321,7 +393,7 @@ fn upper_codes(random: &mut Random, to: &mut Vec<u8>) {
     for _ in 0..random.between(1, 5) {
         match random.below(6) {
             0 => to.push(random.between(0x80, 0x9F) as u8),
-            1 => to.extend([0x9B, random.pick(b"E4\x0F\x8F6ii")]),
+            1 => to.extend([0x9B, random.pick(b"E4\x0F\x8F6ii**")]),
             2 => to.extend([ESC, random.between(0x80, 0x9F) as u8]),
             _ => to.push(0x80 + random.pick(&CONTROLS)),
         }

@@ -6,7 +6,7 @@ use crate::registers;
 use crate::runs::{otherwise, InRuns};
 use crate::states;
 use ierbulosc::{Settings, State as Registers, RECORD_SIZE};
-use plain_reader::{Report, State, Waiting};
+use plain_reader::{Report, State};
 
 /// A state to begin from, if not from a start, and a list of calls.
 #[derive(Clone, PartialEq, Eq, Debug)]
@@ -170,7 +170,7 @@ impl Pair {
     /// A start, after which every register is looked at.
     fn start(&mut self, settings: &Settings) -> (Came, Came, bool) {
         let (answer, state) = calls::start(settings);
-        let plain = Came::from_start(answer, registers::registers(&state, 0));
+        let plain = Came::from_start(answer, registers::registers(&state));
         self.plain = Some(state);
         let (answer, state) = Registers::start(settings);
         let proved = Came::from_start(answer, Some(state));
@@ -194,8 +194,7 @@ impl Pair {
             let before = state.clone();
             report = plain_reader::read(state, input, allowance, &mut out);
             if report.answer != plain_reader::STATE_REFUSED {
-                let first = self.proved.command as u8;
-                after = left(&before, first, &input[..report.read], state);
+                after = registers::registers(state);
             } else if *state != before {
                 after = None;
             }
@@ -241,16 +240,6 @@ impl Pair {
             && as_plain == self.plain.as_ref().map(states::normal)
             && (!self.started || *expected == self.proved)
     }
-}
-
-/// The registers of the plain state that these bytes have left. `image` is the
-/// command of the image that was waited for before, if one was.
-fn left(before: &State, image: u8, bytes: &[u8], state: &State) -> Option<Registers> {
-    let thirty = match state.waiting {
-        Waiting::Image { units: 30, .. } => registers::image_command(before, image, bytes),
-        _ => 0,
-    };
-    registers::registers(state, thirty)
 }
 
 impl Came {

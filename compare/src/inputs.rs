@@ -3,7 +3,7 @@
 use crate::random::Random;
 
 /// The names of the inputs.
-pub const NAMES: [&str; 5] = ["letters", "text", "styled", "images", "card"];
+pub const NAMES: [&str; 6] = ["letters", "text", "styled", "images", "sketches", "card"];
 
 /// A slot card: two lines with seven tab stops.
 const CARD: &[u8] = b"\x1BD\x0A\x14\x1E\x28\x32\x3C\x46\x00\
@@ -17,6 +17,7 @@ pub fn input(name: &str, length: usize) -> Option<Vec<u8>> {
         "text" => line_of_text,
         "styled" => line_of_styles,
         "images" => line_of_images,
+        "sketches" => line_of_sketches,
         "card" => |_, to| to.extend(CARD),
         _ => return None,
     };
@@ -84,9 +85,22 @@ fn line_of_styles(random: &mut Random, to: &mut Vec<u8>) {
 /// One image of up to the width of the paper, CR and a feed of 24/180 inch.
 fn line_of_images(random: &mut Random, to: &mut Vec<u8>) {
     let (command, widest) = random.pick(&[(b'K', 480), (b'L', 960), (b'Y', 960), (b'Z', 1_920)]);
-    let columns = random.between(widest / 2, widest) as u16;
-    to.extend([0x1B, command]);
-    to.extend(columns.to_le_bytes());
-    to.extend((0..columns).map(|_| random.byte()));
+    image(random, &[0x1B, command], (widest, 1), to);
+}
+
+/// The same by ESC *, in a mode of three bytes a column.
+fn line_of_sketches(random: &mut Random, to: &mut Vec<u8>) {
+    const MODES: [(u8, u64); 5] = [(32, 480), (33, 960), (38, 720), (39, 1_440), (40, 2_880)];
+    let (mode, widest) = random.pick(&MODES);
+    image(random, &[0x1B, b'*', mode], (widest, 3), to);
+}
+
+/// An image so opened, half to the whole of the widest, of columns of so many
+/// bytes, CR and a feed.
+fn image(random: &mut Random, opening: &[u8], (widest, bytes): (u64, u64), to: &mut Vec<u8>) {
+    let columns = random.between(widest / 2, widest);
+    to.extend(opening);
+    to.extend((columns as u16).to_le_bytes());
+    to.extend((0..bytes * columns).map(|_| random.byte()));
     to.extend(b"\r\x1BJ\x18");
 }

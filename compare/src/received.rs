@@ -20,9 +20,21 @@ pub enum Received {
     Stop(List, u8),
     /// The byte that ends a list.
     EndOfList(List),
-    /// An image byte, with the escape that asked for it.
-    Column(u8, u8),
+    /// An image byte, with which byte of what column it is, from 1 on.
+    ImageByte(Column, u8, u8),
 }
+
+/// A sort of image column: how far it goes, and how many bytes it has.
+#[derive(Clone, Copy, PartialEq, Eq, Debug)]
+pub struct Column {
+    pub units: i64,
+    pub bytes: u8,
+}
+
+/// The modes of ESC * with one byte a column, and their units.
+const ONE_BYTE: [(u8, i64); 6] = [(0, 60), (1, 30), (2, 30), (3, 15), (4, 45), (6, 40)];
+/// Those with three bytes a column.
+const THREE_BYTES: [(u8, i64); 5] = [(32, 60), (33, 30), (38, 40), (39, 20), (40, 10)];
 
 /// The part of a command that has come so far.
 #[derive(Clone, PartialEq, Eq, Debug, Default)]
@@ -32,7 +44,8 @@ pub enum Receiving {
     Escape,
     Arguments(u8, Vec<u8>),
     List(List, u8),
-    Image(u8, u16),
+    /// Image data: the columns left, and which byte of one comes.
+    Image(Column, u8, u16),
 }
 
 impl Receiving {
@@ -52,11 +65,13 @@ impl Receiving {
                 *self = Receiving::List(list, byte);
                 Some(Received::Stop(list, byte))
             }
-            Receiving::Image(second, left) => {
-                if left > 1 {
-                    *self = Receiving::Image(second, left - 1);
+            Receiving::Image(column, nth, left) => {
+                if nth < column.bytes {
+                    *self = Receiving::Image(column, nth + 1, left);
+                } else if left > 1 {
+                    *self = Receiving::Image(column, 1, left - 1);
                 }
-                Some(Received::Column(second, byte))
+                Some(Received::ImageByte(column, nth, byte))
             }
         }
     }
@@ -90,22 +105,47 @@ impl Receiving {
             *self = Receiving::Arguments(second, arguments);
             return None;
         }
-        if b"KLYZ".contains(&second) {
-            let columns = u16::from(arguments[0]) + 256 * u16::from(arguments[1]);
-            if columns > 0 {
-                *self = Receiving::Image(second, columns);
-            }
+        if let Some((column, columns @ 1..)) = image(second, &arguments) {
+            *self = Receiving::Image(column, 1, columns);
         }
         Some(Received::Escape(second, arguments))
     }
 }
 
+/// The columns that an escape asks for with all its arguments, and how many.
+fn image(second: u8, arguments: &[u8]) -> Option<(Column, u16)> {
+    let one_byte = |units| Some(Column { units, bytes: 1 });
+    let column = match (second, arguments) {
+        (b'K', _) => one_byte(60),
+        (b'L' | b'Y', _) => one_byte(30),
+        (b'Z', _) => one_byte(15),
+        (b'*', [mode, ..]) => listed(*mode),
+        _ => None,
+    }?;
+    let [.., low, high] = *arguments else {
+        return None;
+    };
+    Some((column, u16::from(low) + 256 * u16::from(high)))
+}
+
+/// The column of a mode of ESC *, if that is listed.
+fn listed(mode: u8) -> Option<Column> {
+    let units = |modes: &[(u8, i64)]| {
+        let mut modes = modes.iter();
+        modes.find(|(listed, _)| *listed == mode).map(|mode| mode.1)
+    };
+    let one = units(&ONE_BYTE).map(|units| Column { units, bytes: 1 });
+    one.or(units(&THREE_BYTES).map(|units| Column { units, bytes: 3 }))
+}
+
 /// How many arguments an escape wants, seeing those it has. The third byte of
-/// ESC i counts as one.
+/// ESC i counts as one; a mode of ESC * that is not listed wants no more.
 fn wanted(second: u8, so_far: &[u8]) -> usize {
     match (second, so_far.first()) {
         (b'C', Some(0)) | (b'i', Some(b'a')) => 2,
         (b'C' | b'i', _) => 1,
+        (b'*', Some(&mode)) if listed(mode).is_none() => 1,
+        (b'*', _) => 3,
         _ if b"$\\KLYZ".contains(&second) => 2,
         _ => usize::from(b"3A+JNlQpSxWw-%tRqk !".contains(&second)),
     }

@@ -5,15 +5,18 @@
 //! input and the count of bytes read. The plain reader is run over the same
 //! bytes, one at a time, on a state kept for that alone. Of its state nothing
 //! is looked at, and of the records it writes only
-//! - whether there is a NO: the command, stop, letter or column is passed over;
-//! - whether there is a TX or IM: the letter or column is placed;
+//! - whether there is a NO: the command, stop, letter or image byte is passed
+//!   over;
+//! - whether there is a TX or IM: the letter or image byte is placed;
 //! - whether there is an LN, and its byte: an automatic line falls before a
 //!   letter, VT goes to a stop or feeds a page, how many pages turn.
 //!
-//! Which stop HT or VT takes is found from the lists and places kept here.
+//! Which stop HT or VT takes is found from the lists and places kept here; how
+//! far an image column goes, how many bytes it has and which of them comes, from
+//! the bytes received.
 
 use crate::calls::{self, Call};
-use crate::received::{Received, Receiving};
+use crate::received::{Column, Received, Receiving};
 use crate::settings::Settings;
 use ierbulosc::{RECORD_SIZE, ROOM};
 use plain_reader::State;
@@ -130,7 +133,9 @@ impl Reckoning {
     fn reckon(&mut self, received: &Received, learnt: &Learnt) {
         match *received {
             Received::Letter(letter) => return self.letter(letter, learnt),
-            Received::Column(second, byte) => return self.column(second, byte, learnt),
+            Received::ImageByte(column, nth, byte) => {
+                return self.image_byte(column, nth, byte, learnt)
+            }
             _ => {}
         }
         if learnt.passed_over {
@@ -141,7 +146,7 @@ impl Reckoning {
             Received::Escape(second, arguments) => self.escape(*second, arguments, learnt),
             Received::Stop(list, byte) => self.settings.stop(*list, *byte),
             Received::EndOfList(list) => self.settings.end_of_list(*list),
-            Received::Letter(_) | Received::Column(..) => {}
+            Received::Letter(_) | Received::ImageByte(..) => {}
         }
     }
 
@@ -160,19 +165,23 @@ impl Reckoning {
         record[8..10].copy_from_slice(&style);
         record[10] = self.settings.country;
         self.add(record, advance);
+        self.across.moves += advance;
     }
 
-    fn column(&mut self, second: u8, byte: u8, learnt: &Learnt) {
+    /// A byte of a column: placed where the column begins, and after the last
+    /// one moved past.
+    fn image_byte(&mut self, column: Column, nth: u8, byte: u8, learnt: &Learnt) {
         if !learnt.placed {
             return;
         }
-        let units = match second {
-            b'K' => 60,
-            b'Z' => 15,
-            _ => 30,
-        };
-        let record = self.print(*b"IM", byte, units);
-        self.add(record, units);
+        let mut record = self.print(*b"IM", byte, column.units);
+        if column.bytes > 1 {
+            record[7] = nth;
+        }
+        self.add(record, column.units);
+        if nth == column.bytes {
+            self.across.moves += column.units;
+        }
     }
 
     /// A record at the exact place: mark, column, row, byte and advance.
@@ -196,7 +205,6 @@ impl Reckoning {
             down: self.down.at(),
             inside: self.settings.left <= across && across + advance <= self.settings.right,
         });
-        self.across.moves += advance;
     }
 
     /// LF: a line more, or a new page's top.
@@ -293,8 +301,8 @@ impl Reckoning {
                 self.across.set(self.settings.left + 60 * places);
             }
             b'\\' => self.across.moves += self.signed_move(number(0) + 256 * number(1)),
-            // Done, it sets nothing and moves nothing.
-            b'i' => {}
+            // Done, they set nothing and move nothing.
+            b'i' | b'*' => {}
             _ => self.settings.escape(second, arguments),
         }
     }

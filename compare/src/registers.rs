@@ -2,8 +2,8 @@
 //! registers that the library's interface shows.
 
 use crate::states::more_arguments;
-use ierbulosc::{State as Registers, Stops as RegisterStops, REGISTERS, ROOM};
-use plain_reader::{read, State, Stops, Waiting};
+use ierbulosc::{State as Registers, Stops as RegisterStops, REGISTERS};
+use plain_reader::{State, Stops, Waiting};
 
 /// The plain state that registers stand for. None if one has a number that the
 /// interface does not give it and the plain state has no place for: a flag
@@ -74,7 +74,6 @@ fn plain_list(list: &RegisterStops) -> Stops {
 
 fn plain_waiting(registers: &Registers) -> Option<Waiting> {
     let (command, last) = (byte(registers.command)?, byte(registers.argument)?);
-    let columns = registers.image_columns;
     let arguments = |given, first| {
         Some(Waiting::Arguments {
             command,
@@ -82,35 +81,43 @@ fn plain_waiting(registers: &Registers) -> Option<Waiting> {
             first,
         })
     };
-    let image = |units| Some(Waiting::Image { units, columns });
     let more = |given| more_arguments(command, given, last);
-    match (registers.kind, command, last, columns) {
-        (ierbulosc::NOTHING, 0, 0, 0) => Some(Waiting::Nothing),
-        (ierbulosc::SECOND_BYTE, 0, 0, 0) => Some(Waiting::SecondByte),
-        (ierbulosc::FIRST_ARGUMENT, b'i', 0, 0) => Some(Waiting::ThirdByte),
-        (ierbulosc::SECOND_ARGUMENT, b'i', b'a', 0) => Some(Waiting::CommandMode),
-        (ierbulosc::FIRST_ARGUMENT, _, 0, 0) if more(0) => arguments(0, 0),
-        (ierbulosc::SECOND_ARGUMENT, _, first, 0) if more(1) => arguments(1, first),
-        (ierbulosc::STOP_LIST, b'D', _, 0) => Some(Waiting::HorizontalStops { last }),
-        (ierbulosc::STOP_LIST, b'B', _, 0) => Some(Waiting::VerticalStops { last }),
-        (ierbulosc::IMAGE_DATA, b'K', 0, _) => image(60),
-        (ierbulosc::IMAGE_DATA, b'L' | b'Y', 0, _) => image(30),
-        (ierbulosc::IMAGE_DATA, b'Z', 0, _) => image(15),
+    let mode = byte(registers.image_mode)?;
+    let image = (mode, byte(registers.image_byte)?, registers.image_columns);
+    match (registers.kind, command, last, image) {
+        (ierbulosc::THIRD_ARGUMENT, b'*', low, (_, 0, 0)) => {
+            Some(Waiting::ColumnsHigh { mode, low })
+        }
+        (ierbulosc::IMAGE_DATA, 0, 0, (_, nth, columns)) => {
+            Some(Waiting::Image { mode, nth, columns })
+        }
+        (kind, _, _, (0, 0, 0)) => match (kind, command, last) {
+            (ierbulosc::NOTHING, 0, 0) => Some(Waiting::Nothing),
+            (ierbulosc::SECOND_BYTE, 0, 0) => Some(Waiting::SecondByte),
+            (ierbulosc::FIRST_ARGUMENT, b'i', 0) => Some(Waiting::ThirdByte),
+            (ierbulosc::SECOND_ARGUMENT, b'i', b'a') => Some(Waiting::CommandMode),
+            (ierbulosc::FIRST_ARGUMENT, b'*', 0) => Some(Waiting::ImageMode),
+            (ierbulosc::SECOND_ARGUMENT, b'*', mode) => Some(Waiting::ColumnsLow { mode }),
+            (ierbulosc::FIRST_ARGUMENT, _, 0) if more(0) => arguments(0, 0),
+            (ierbulosc::SECOND_ARGUMENT, _, first) if more(1) => arguments(1, first),
+            (ierbulosc::STOP_LIST, b'D', _) => Some(Waiting::HorizontalStops { last }),
+            (ierbulosc::STOP_LIST, b'B', _) => Some(Waiting::VerticalStops { last }),
+            _ => None,
+        },
         _ => None,
     }
 }
 
 /// The registers of a plain state. None if a field does not go into its
 /// register, or something is waited for that the interface has no kind for.
-///
-/// The plain state knows of an image only the units of a column, which ESC L
-/// and ESC Y share: `thirty` says which of these it is.
-pub fn registers(state: &State, thirty: u8) -> Option<Registers> {
-    let [kind, command, argument, image_columns] = waiting(state.waiting, thirty)?;
+pub fn registers(state: &State) -> Option<Registers> {
+    let (kind, [command, argument], (mode, nth, image_columns)) = waiting(state.waiting)?;
     Some(follows(&Registers {
         kind,
-        command,
-        argument,
+        command: command.into(),
+        argument: argument.into(),
+        image_mode: mode.into(),
+        image_byte: nth.into(),
         image_columns,
         across: state.across,
         down: state.down,
@@ -222,35 +229,38 @@ fn list(list: &Stops) -> Option<RegisterStops> {
     })
 }
 
-/// What is waited for: kind, command, argument and image columns.
-fn waiting(waiting: Waiting, thirty: u8) -> Option<[u32; 4]> {
-    let (kind, command, argument, columns) = match waiting {
-        Waiting::Nothing => (ierbulosc::NOTHING, 0, 0, 0),
-        Waiting::SecondByte => (ierbulosc::SECOND_BYTE, 0, 0, 0),
-        Waiting::ThirdByte => (ierbulosc::FIRST_ARGUMENT, b'i', 0, 0),
-        Waiting::CommandMode => (ierbulosc::SECOND_ARGUMENT, b'i', b'a', 0),
+/// What is waited for: its kind, command and argument, and of an image its
+/// mode, the byte of a column and the columns.
+type Numbers = (u32, [u8; 2], (u8, u8, u32));
+
+fn waiting(waiting: Waiting) -> Option<Numbers> {
+    const NO_IMAGE: (u8, u8, u32) = (0, 0, 0);
+    let (kind, command, argument) = match waiting {
+        Waiting::Nothing => (ierbulosc::NOTHING, 0, 0),
+        Waiting::SecondByte => (ierbulosc::SECOND_BYTE, 0, 0),
+        Waiting::ThirdByte => (ierbulosc::FIRST_ARGUMENT, b'i', 0),
+        Waiting::CommandMode => (ierbulosc::SECOND_ARGUMENT, b'i', b'a'),
         Waiting::Arguments {
             command,
             given,
             first,
         } => match (more_arguments(command, given, first), given) {
             (false, _) => return None,
-            (true, 0) => (ierbulosc::FIRST_ARGUMENT, command, 0, 0),
-            (true, _) => (ierbulosc::SECOND_ARGUMENT, command, first, 0),
+            (true, 0) => (ierbulosc::FIRST_ARGUMENT, command, 0),
+            (true, _) => (ierbulosc::SECOND_ARGUMENT, command, first),
         },
-        Waiting::HorizontalStops { last } => (ierbulosc::STOP_LIST, b'D', last, 0),
-        Waiting::VerticalStops { last } => (ierbulosc::STOP_LIST, b'B', last, 0),
-        Waiting::Image { units, columns } => {
-            let command = match units {
-                60 => b'K',
-                30 => thirty,
-                15 => b'Z',
-                _ => return None,
-            };
-            (ierbulosc::IMAGE_DATA, command, 0, columns)
+        Waiting::HorizontalStops { last } => (ierbulosc::STOP_LIST, b'D', last),
+        Waiting::VerticalStops { last } => (ierbulosc::STOP_LIST, b'B', last),
+        Waiting::ImageMode => (ierbulosc::FIRST_ARGUMENT, b'*', 0),
+        Waiting::ColumnsLow { mode } => (ierbulosc::SECOND_ARGUMENT, b'*', mode),
+        Waiting::ColumnsHigh { mode, low } => {
+            return Some((ierbulosc::THIRD_ARGUMENT, [b'*', low], (mode, 0, 0)))
+        }
+        Waiting::Image { mode, nth, columns } => {
+            return Some((ierbulosc::IMAGE_DATA, [0, 0], (mode, nth, columns)))
         }
     };
-    Some([kind, command.into(), argument.into(), columns])
+    Some((kind, [command, argument], NO_IMAGE))
 }
 
 /// Whether a list of stops is gathered.
@@ -286,21 +296,4 @@ pub fn normal(registers: &Registers) -> Registers {
         normal.gathered.count = 0;
     }
     normal
-}
-
-/// The second byte of the escape whose image data is waited for when these
-/// bytes are read, if it is: `first` if it is waited for already.
-pub fn image_command(before: &State, first: u8, bytes: &[u8]) -> u8 {
-    let mut state = before.clone();
-    let mut image = first;
-    for &byte in bytes {
-        if let Waiting::Arguments {
-            command, given: 1, ..
-        } = state.waiting
-        {
-            image = command;
-        }
-        read(&mut state, &[byte], 1, &mut [0; ROOM]);
-    }
-    image
 }

@@ -2,7 +2,7 @@
 //! few fields set at, inside and outside their bounds.
 
 use crate::calls::room_for;
-use crate::generate;
+use crate::generate::{self, ONE_BYTE_MODES, THREE_BYTE_MODES};
 use crate::random::Random;
 use crate::{NARROWEST, WIDEST};
 use plain_reader::{read, start, State, Stops, Waiting};
@@ -27,10 +27,11 @@ const LINES: Limits = Limits {
 
 /// What may be waited for inside an escape, but for arguments, lists and
 /// images.
-const INSIDE_ESCAPES: [Waiting; 3] = [
+const INSIDE_ESCAPES: [Waiting; 4] = [
     Waiting::SecondByte,
     Waiting::ThirdByte,
     Waiting::CommandMode,
+    Waiting::ImageMode,
 ];
 
 /// Escapes with one argument, but ESC C.
@@ -167,7 +168,7 @@ fn near(random: &mut Random, lowest: u32, highest: u32) -> u32 {
 /// Sets one field, or one group of fields, to some value.
 pub fn change(random: &mut Random, state: &mut State) {
     let edge = state.page_length.saturating_sub(state.skip);
-    match random.below(26) {
+    match random.below(27) {
         0 => state.resolution = random.pick(&[300, 203, 200, 0, 299, 204, 65_836]),
         1 => state.across = near(random, state.left, state.right),
         2 => state.down = near(random, 0, edge.saturating_sub(1)),
@@ -193,6 +194,7 @@ pub fn change(random: &mut Random, state: &mut State) {
         22 => await_image(random, state),
         23 => state.waiting = random.pick(&INSIDE_ESCAPES),
         24 => change_width(random, state),
+        25 => await_columns_of_image(random, state),
         _ => state.waiting = Waiting::Nothing,
     }
 }
@@ -385,9 +387,38 @@ fn lines(random: &mut Random, line_amount: u32) -> Stops {
     list
 }
 
+/// A mode of images, listed or not.
+pub fn a_mode(random: &mut Random) -> u8 {
+    match random.below(10) {
+        0 => random.byte(),
+        1 => random.pick(&[5, 7, 31, 34, 37, 41, 71, 72, 73, 255]),
+        2..=4 => random.pick(&ONE_BYTE_MODES),
+        _ => random.pick(&THREE_BYTE_MODES),
+    }
+}
+
+/// The columns of ESC *, after a listed mode or another.
+fn await_columns_of_image(random: &mut Random, state: &mut State) {
+    let mode = a_mode(random);
+    state.waiting = match random.flag() {
+        true => Waiting::ColumnsLow { mode },
+        false => Waiting::ColumnsHigh {
+            mode,
+            low: random.byte(),
+        },
+    };
+}
+
+/// Image data, with any byte of a column, in modes of three bytes and others.
 fn await_image(random: &mut Random, state: &mut State) {
+    let mode = a_mode(random);
+    let nth = match THREE_BYTE_MODES.contains(&mode) {
+        true => random.pick(&[1, 2, 3, 1, 2, 3, 1, 2, 3, 0, 4, 255]),
+        false => random.pick(&[1, 1, 1, 1, 1, 1, 0, 2, 3, 4]),
+    };
     state.waiting = Waiting::Image {
-        units: random.pick(&[60, 30, 15, 60, 30, 15, 0, 20, 45, 61, u32::MAX]),
+        mode,
+        nth,
         columns: random.pick(&[1, 2, 7, 300, 65_534, 65_535, 0, 65_536, u32::MAX]),
     };
 }
@@ -395,10 +426,11 @@ fn await_image(random: &mut Random, state: &mut State) {
 /// Something waited for, inside the bounds.
 fn await_inside(random: &mut Random, state: &mut State) {
     for _ in 0..20 {
-        match random.below(4) {
+        match random.below(6) {
             0 => await_arguments(random, state),
-            1 => await_list(random, state),
-            2 => await_image(random, state),
+            1 | 2 => await_list(random, state),
+            3 => await_image(random, state),
+            4 => await_columns_of_image(random, state),
             _ => state.waiting = random.pick(&INSIDE_ESCAPES),
         }
         if state.accepted() {

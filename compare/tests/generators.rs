@@ -2,11 +2,12 @@
 
 use compare::arbitrary;
 use compare::calls::{calls, room_for, run, Call, FILL};
+use compare::fields;
+use compare::generate::{self, ONE_BYTE_MODES, THREE_BYTE_MODES};
 use compare::random::Random;
 use compare::registers::{follows, plain};
 use compare::shrink::shrink;
 use compare::states::{self, inside, normal, reached};
-use compare::{fields, generate};
 use ierbulosc::{
     Settings, State as Registers, Stops, COLUMNS, LINES, RECORD_SIZE, REGISTERS, ROOM,
 };
@@ -176,7 +177,7 @@ fn each_register_is_wrong_alone() {
         if accepted(&state) {
             continue;
         }
-        for (at, such) in such.iter_mut().enumerate().take(40) {
+        for (at, such) in such.iter_mut().enumerate().take(42) {
             let mut mended = state.registers();
             mended[at] = power_on.registers()[at];
             let mended = follows(&Registers::from_registers(mended));
@@ -188,7 +189,7 @@ fn each_register_is_wrong_alone() {
     let names = fields::fields(&mut state)
         .into_iter()
         .map(|field| field.name);
-    for (name, such) in names.zip(such).take(40) {
+    for (name, such) in names.zip(such).take(42) {
         println!("{name}: {such}");
         assert!(such > 20, "{name}: {such}");
     }
@@ -278,7 +279,7 @@ fn right_and_wrong_places_of_esc_i_occur() {
     let mut random = Random::new(12);
     let [mut third_byte, mut mode] = [0, 0];
     let mut wrong = BTreeMap::new();
-    for _ in 0..400_000 {
+    for _ in 0..800_000 {
         let state = arbitrary::arbitrary(&mut random);
         let mended = Registers {
             kind: ierbulosc::SECOND_ARGUMENT,
@@ -301,6 +302,158 @@ fn right_and_wrong_places_of_esc_i_occur() {
     }
     let kinds: BTreeSet<u32> = wrong.keys().map(|(kind, _)| *kind).collect();
     assert!((0..=6).all(|kind| kinds.contains(&kind)), "{kinds:?}");
+}
+
+/// Calls that are cut inside ESC * and inside a column, at each place and in
+/// each mode, and that go on from there.
+#[test]
+fn images_are_cut_after_each_byte() {
+    let mut gone_on = BTreeMap::new();
+    for seed in 0..6_000 {
+        let outcomes = run(&calls(&mut Random::new(seed)));
+        for pair in outcomes.windows(2) {
+            let place = match pair[0].state.waiting {
+                Waiting::ImageMode => (0, 0),
+                Waiting::ColumnsLow { .. } => (1, 0),
+                Waiting::ColumnsHigh { .. } => (2, 0),
+                Waiting::Image { mode, nth, .. } => (2 + nth, mode),
+                _ => continue,
+            };
+            if pair[1].read > 0 {
+                *gone_on.entry(place).or_insert(0) += 1;
+            }
+        }
+    }
+    println!("{gone_on:?}");
+    let arguments = [(0, 0), (1, 0), (2, 0)].into_iter();
+    let one_byte = ONE_BYTE_MODES.map(|mode| (3, mode)).into_iter();
+    let bytes = |mode| [(3, mode), (4, mode), (5, mode)];
+    let three_bytes = THREE_BYTE_MODES.into_iter().flat_map(bytes);
+    for place in arguments.chain(one_byte).chain(three_bytes) {
+        assert!(gone_on.get(&place) > Some(&10), "{place:?}: {gone_on:?}");
+    }
+}
+
+/// Every mode number comes, also begun by 9Bh, and with every listed one no
+/// columns, one, 255, 256 and 65,535.
+#[test]
+fn telling_bytes_come_inside_esc_star() {
+    let mut modes = [BTreeSet::new(), BTreeSet::new()];
+    let mut columns = BTreeMap::new();
+    for seed in 0..20_000 {
+        let input = generate::input(&mut Random::new(seed), 60);
+        let (_, mut state) = start(300, false, 28_800);
+        let mut before = [0; 2];
+        for byte in input {
+            match state.waiting {
+                Waiting::ImageMode => {
+                    modes[usize::from(before[0] == 0x9B)].insert(byte);
+                }
+                Waiting::ColumnsHigh { mode, low } => {
+                    let number = u16::from_le_bytes([low, byte]);
+                    *columns.entry((mode, number)).or_insert(0) += 1;
+                }
+                _ => {}
+            }
+            before = [before[1], byte];
+            read(&mut state, &[byte], 1, &mut [0; ROOM]);
+        }
+    }
+    let [modes, upper] = modes.map(|modes| modes.len());
+    println!("{modes} modes, {upper} of them begun by 9Bh");
+    assert!(modes == 256 && upper > 150);
+    for mode in ONE_BYTE_MODES.into_iter().chain(THREE_BYTE_MODES) {
+        for number in [0, 1, 2, 255, 256, 65_535] {
+            let such = columns.get(&(mode, number));
+            println!("mode {mode}, {number} columns: {such:?}");
+            assert!(such > Some(&0), "mode {mode}, {number} columns");
+        }
+    }
+}
+
+/// Images whose columns end beside the right margin: in every mode runs that
+/// end in a column that fits just so, and in one that does not fit.
+#[test]
+fn margins_end_inside_runs_of_columns() {
+    let mut ends = BTreeMap::new();
+    for seed in 0..2_000 {
+        let input = generate::input(&mut Random::new(seed), 60);
+        let (_, mut state) = start(300, false, 28_800);
+        for byte in input {
+            let before = state.clone();
+            let mut out = [0; ROOM];
+            let report = read(&mut state, &[byte], 1, &mut out);
+            if let Waiting::Image { mode, nth, .. } = before.waiting {
+                let placed = report.written > 0 && out.starts_with(b"IM");
+                let inside = before.left < before.across;
+                let full = inside && placed && state.across == state.right;
+                let over = inside && !placed;
+                *ends.entry((mode, nth, true)).or_insert(0) += u64::from(full);
+                *ends.entry((mode, nth, false)).or_insert(0) += u64::from(over);
+            }
+        }
+    }
+    println!("{ends:?}");
+    for mode in ONE_BYTE_MODES.into_iter().chain(THREE_BYTE_MODES) {
+        let last = if THREE_BYTE_MODES.contains(&mode) {
+            3
+        } else {
+            1
+        };
+        assert!(ends.get(&(mode, last, true)) > Some(&10), "mode {mode}");
+        for nth in 1..=last {
+            assert!(ends.get(&(mode, nth, false)) > Some(&10), "mode {mode}");
+        }
+    }
+}
+
+/// Registers that wait for ESC * and for image data with all that may stand
+/// there, and with something else, and nothing else wrong.
+#[test]
+fn right_and_wrong_places_of_images_occur() {
+    let mut random = Random::new(15);
+    let mut right = BTreeMap::new();
+    let mut wrong = BTreeMap::new();
+    for _ in 0..400_000 {
+        let state = arbitrary::arbitrary(&mut random);
+        let numbers = state.registers();
+        let mut mended = numbers;
+        mended[..6].fill(0);
+        if !accepted(&Registers::from_registers(mended)) {
+            continue;
+        }
+        let place = (state.kind, state.image_mode, state.image_byte);
+        let images = [ierbulosc::IMAGE_DATA, ierbulosc::THIRD_ARGUMENT].contains(&state.kind);
+        let counts = match accepted(&state) {
+            true => &mut right,
+            false => &mut wrong,
+        };
+        if images && numbers[1..3] == [0, 0] || state.command == u32::from(b'*') {
+            *counts.entry(place).or_insert(0) += 1;
+            if state.kind == ierbulosc::SECOND_ARGUMENT && numbers[3..6] == [0; 3] {
+                *counts.entry((3, state.argument, 0)).or_insert(0) += 1;
+            }
+        }
+    }
+    let such = |counts: &BTreeMap<_, u64>, place| counts.get(&place).copied().unwrap_or(0);
+    assert!(such(&right, (2, 0, 0)) > 100);
+    let listed = ONE_BYTE_MODES.into_iter().chain(THREE_BYTE_MODES);
+    for mode in listed.map(u32::from) {
+        let bytes = if mode < 32 { 1 } else { 3 };
+        assert!(such(&right, (3, mode, 0)) > 20, "mode {mode}");
+        assert!(such(&right, (6, mode, 0)) > 20, "mode {mode}");
+        for byte in 1..=bytes {
+            assert!(such(&right, (5, mode, byte)) > 100, "{mode}, byte {byte}");
+        }
+        for byte in [0, bytes + 1, 4] {
+            assert!(such(&wrong, (5, mode, byte)) > 3, "{mode}, byte {byte}");
+        }
+    }
+    for mode in [5, 7, 31, 34, 41, 72] {
+        assert!(such(&wrong, (3, mode, 0)) > 3, "mode {mode}");
+        assert!(such(&wrong, (6, mode, 0)) > 3, "mode {mode}");
+        assert!(such(&wrong, (5, mode, 1)) > 3, "mode {mode}");
+    }
 }
 
 /// Starts on paper of widths at and beside the limits, and of many others.

@@ -3,6 +3,7 @@
 use compare::arbitrary;
 use compare::calls::{calls, room_for, Call};
 use compare::fields::fields;
+use compare::generate::{ONE_BYTE_MODES, THREE_BYTE_MODES};
 use compare::hold::{difference, outcomes, Case, Tally};
 use compare::random::Random;
 use compare::registers::{follows, plain};
@@ -147,7 +148,7 @@ fn gathering(random: &mut Random) -> Registers {
 fn every_place_of_esc_i() {
     let mut random = Random::new(13);
     let mut tally = Tally::default();
-    for kind in (0..=6).chain([255, 256, 258, 259]) {
+    for kind in (0..=7).chain([255, 256, 258, 259]) {
         for argument in (0..=256).chain([0x153, 0x161, 0x1_0061, u32::MAX]) {
             for (image_columns, above) in [(0, 0), (1, 0), (0, 256)] {
                 let case = Case {
@@ -162,6 +163,93 @@ fn every_place_of_esc_i() {
                 };
                 assert_eq!(difference(&case, &mut tally), None, "{}", text::text(&case));
             }
+        }
+    }
+}
+
+/// ESC * and image data waited for in every mode, with every byte of a column
+/// and numbers beside them: both readers take the same states, and read on the
+/// same.
+#[test]
+fn every_place_of_images() {
+    let mut random = Random::new(16);
+    let mut tally = Tally::default();
+    let star = u32::from(b'*');
+    let mut places = Vec::new();
+    for mode in (0..=256).chain([0x127, 0x1_0027, u32::MAX]) {
+        for byte in (0..=4).chain([255, 256, 257, u32::MAX]) {
+            for columns in [0, 1, 2, 65_535, 65_536] {
+                places.push([5, 0, 0, mode, byte, columns]);
+            }
+        }
+        for low in [0, 1, 255, 256] {
+            places.push([6, star, low, mode, 0, 0]);
+        }
+        for (command, argument) in [(star, 0), (0, 1), (75, 0), (256, 0), (0, 256)] {
+            places.push([5, command, argument, mode, 1, 1]);
+        }
+        places.extend([
+            [2, star, mode, 0, 0, 0],
+            [3, star, mode, 0, 0, 0],
+            [3, star, mode, 39, 0, 0],
+            [3, star, 39, mode, 0, 0],
+            [3, star, 39, 0, mode, 0],
+            [3, star, 39, 0, 0, mode],
+            [6, star, mode, 39, 0, 0],
+            [6, star, 1, 39, mode, 0],
+            [6, star, 1, 39, 0, mode],
+            [6, mode, 1, 39, 0, 0],
+            [mode, star, 39, 0, 0, 0],
+            [mode, 0, 0, 39, 1, 1],
+        ]);
+    }
+    for place in places {
+        let mut registers = arbitrary::accepted(&mut random).registers();
+        registers[..6].copy_from_slice(&place);
+        let state = Some(Registers::from_registers(registers));
+        let calls = vec![
+            reading(&[random.byte(), 0]),
+            reading(b"A\x1B*\x27\x01\0BCDE"),
+        ];
+        let case = Case { state, calls };
+        assert_eq!(difference(&case, &mut tally), None, "{}", text::text(&case));
+    }
+}
+
+/// Every mode of ESC *, with some columns, cut after each byte, after ESC 6 and
+/// after ESC 7, begun by 1Bh and by 9Bh, within margins that end in the image.
+#[test]
+fn every_mode_of_esc_star() {
+    let mut tally = Tally::default();
+    for (upper, first) in [(b'6', 0x1B), (b'7', 0x1B), (b'7', 0x9B)] {
+        for mode in 0..=255 {
+            for columns in [0, 1, 2, 7] {
+                let escape = [first, b'*', mode, columns, 0];
+                let input = [&escape[..], b"\x1B@ABCDEFGHIJKLMNOPQRS\x8ATUV"].concat();
+                let mut calls = vec![Call::Start(Default::default())];
+                calls.push(reading(&[0x1B, upper, 0x1B, b'Q', 1]));
+                calls.push(reading(&input));
+                calls.push(reading(b"\r\x1BQ\x02\x1B\\\x05\0"));
+                calls.extend(input.iter().map(|&byte| reading(&[byte])));
+                let case = Case { state: None, calls };
+                assert_eq!(difference(&case, &mut tally), None, "{}", text::text(&case));
+            }
+        }
+    }
+}
+
+/// As many columns as there may be, in every listed mode, in pieces.
+#[test]
+fn the_most_columns() {
+    let mut tally = Tally::default();
+    for mode in ONE_BYTE_MODES.into_iter().chain(THREE_BYTE_MODES) {
+        for piece in [1_000, 65_535] {
+            let mut input = vec![0x1B, b'*', mode, 255, 255];
+            input.extend((0..3 * 65_535).map(|at| (at % 251) as u8));
+            let mut calls = vec![Call::Start(Default::default())];
+            calls.extend(input.chunks(piece).map(reading));
+            let case = Case { state: None, calls };
+            assert_eq!(difference(&case, &mut tally), None, "mode {mode}");
         }
     }
 }

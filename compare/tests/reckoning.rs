@@ -122,3 +122,39 @@ fn esc_i_moves_nothing() {
     assert_eq!(places, expected);
     assert!(due.iter().all(|printed| printed.down == 0));
 }
+
+/// The bytes of a column stand at one place, which moves after the last of
+/// them, and not where the column does not fit.
+#[test]
+fn columns_move_after_their_last_byte() {
+    let reading = |input: &[u8]| Call::Read {
+        input: input.to_vec(),
+        allowance: 100,
+        room: 1_000,
+    };
+    let list = [
+        Call::Start(Settings::default()),
+        reading(b"\x1BQ\x01\x1B\\\x0E\x00\x1B*\x20\x02\x001"),
+        reading(b"23456"),
+        reading(b"\x1B*\x27\x02\x00abcde"),
+        reading(b"f\x1B*\x04\x01\x00g\x1B*\x28\x00\x00\x1B*\x05\x1BL\x02\x00hiA"),
+    ];
+    let (records, reads) = placed(&list);
+    let due = expected(&list, &reads);
+    assert!(due.iter().map(|printed| &printed.record).eq(&records));
+    let shown = due
+        .iter()
+        .map(|p| (p.record[6], p.record[7], p.across, p.record[12]));
+    let expected = [
+        (b'1', 1, 280, 60),
+        (b'2', 2, 280, 60),
+        (b'3', 3, 280, 60),
+        (b'a', 1, 340, 20),
+        (b'b', 2, 340, 20),
+        (b'c', 3, 340, 20),
+    ];
+    assert_eq!(shown.clone().take(6).collect::<Vec<_>>(), expected);
+    let letter = (b'A', 0, 0, (360 % 256) as u8);
+    assert_eq!(shown.skip(6).collect::<Vec<_>>(), [letter]);
+    assert_eq!(due[6].down, 600);
+}

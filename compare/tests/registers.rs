@@ -2,13 +2,13 @@
 
 use compare::fields::{differing, fields, set};
 use compare::random::Random;
-use compare::registers::{follows, image_command, normal, plain, registers};
+use compare::registers::{follows, normal, plain, registers};
 use compare::{arbitrary, states};
 use ierbulosc::{State as Registers, REGISTERS, ROOM};
-use plain_reader::{read, start, Waiting};
+use plain_reader::{read, start};
 
 fn power_on() -> Registers {
-    registers(&start(300, false, 28_800).1, b'L').unwrap()
+    registers(&start(300, false, 28_800).1).unwrap()
 }
 
 fn names() -> Vec<String> {
@@ -36,7 +36,7 @@ fn power_on_is_the_librarys() {
         };
         let (_, state) = start(resolution, true, 7_559);
         let (_, proved) = Registers::start(&settings);
-        assert_eq!(registers(&state, 0), Some(proved));
+        assert_eq!(registers(&state), Some(proved));
         assert_eq!(plain(&proved), Some(state));
     }
 }
@@ -51,7 +51,7 @@ fn there_and_back() {
             continue;
         };
         told += 1;
-        assert_eq!(registers(&plain, state.command as u8), Some(state));
+        assert_eq!(registers(&plain), Some(state));
     }
     assert!(told > 12_000, "{told}");
 }
@@ -75,9 +75,16 @@ fn numbers_that_stand_for_no_plain_state() {
     let names = names();
     let flags = |name: &&String| with(name, 2) == (false, false);
     let flags: Vec<&String> = names.iter().filter(flags).collect();
-    let waiting = ["kind", "command", "argument", "image_columns"];
+    let waiting = [
+        "kind",
+        "command",
+        "argument",
+        "image_mode",
+        "image_byte",
+        "image_columns",
+    ];
     let derived = ["dots_down", "style", "advance", "column_width"];
-    assert_eq!(flags.len(), 17 + 4, "{flags:?}");
+    assert_eq!(flags.len(), 17 + 6, "{flags:?}");
     for name in flags
         .iter()
         .filter(|name| !waiting.contains(&name.as_str()))
@@ -138,44 +145,141 @@ fn registers_that_follow() {
     assert_eq!(follows(&state).dots_down, 200);
 }
 
-/// Whether something waited for is accepted.
-fn waits(kind: u32, command: u32, argument: u32, image_columns: u32) -> bool {
+/// Whether something waited for is accepted: kind, command and argument, and of
+/// an image mode, byte and columns.
+fn waits(kind: u32, command: u32, argument: u32, image: [u32; 3]) -> bool {
+    let [image_mode, image_byte, image_columns] = image;
     let state = Registers {
         kind,
         command,
         argument,
+        image_mode,
+        image_byte,
         image_columns,
         ..power_on()
     };
     plain(&state).is_some_and(|state| state.accepted())
 }
 
+const NO_IMAGE: [u32; 3] = [0; 3];
+/// Numbers of an image of which one is not 0.
+const IMAGES: [[u32; 3]; 3] = [[1, 0, 0], [0, 1, 0], [0, 0, 1]];
+
 #[test]
 fn kinds_of_waiting() {
-    let commands = |kind, argument, columns| {
-        let all = (0..=600).filter(|&command| waits(kind, command, argument, columns));
+    let commands = |kind, argument, image| {
+        let all = (0..=600).filter(|&command| waits(kind, command, argument, image));
         let bytes = all.map(|command| u8::try_from(command).unwrap());
         bytes.collect::<Vec<u8>>()
     };
     for kind in [0, 1] {
-        assert_eq!(commands(kind, 0, 0), [0]);
+        assert_eq!(commands(kind, 0, NO_IMAGE), [0]);
     }
-    assert_eq!(commands(2, 0, 0), b" !$%+-3ACJKLNQRSWYZ\\iklpqtwx");
-    assert_eq!(commands(3, 0, 0), b"$CKLYZ\\");
-    assert_eq!(commands(3, 7, 0), b"$KLYZ\\");
-    assert_eq!(commands(3, b'a'.into(), 0), b"$KLYZ\\i");
-    assert_eq!(commands(4, 7, 0), b"BD");
-    assert_eq!(commands(5, 0, 65_535), b"KLYZ");
+    assert_eq!(commands(2, 0, NO_IMAGE), b" !$%*+-3ACJKLNQRSWYZ\\iklpqtwx");
+    assert_eq!(commands(3, 0, NO_IMAGE), b"$*CKLYZ\\");
+    assert_eq!(commands(3, 7, NO_IMAGE), b"$KLYZ\\");
+    assert_eq!(commands(3, 39, NO_IMAGE), b"$*KLYZ\\");
+    assert_eq!(commands(3, b'a'.into(), NO_IMAGE), b"$KLYZ\\i");
+    assert_eq!(commands(4, 7, NO_IMAGE), b"BD");
+    assert_eq!(commands(5, 0, [0, 1, 65_535]), [0]);
+    assert_eq!(commands(5, 0, [40, 3, 1]), [0]);
+    assert_eq!(commands(6, 7, [0, 0, 0]), b"*");
+    assert_eq!(commands(6, 0, [39, 0, 0]), b"*");
     for kind in (0..=255).chain([256, 257, 258, u32::MAX]) {
-        let unused = !(3..=4).contains(&kind) && !commands(kind, 1, 0).is_empty();
+        let argued = matches!(kind, 3 | 4 | 6);
+        let unused = !argued && !commands(kind, 1, NO_IMAGE).is_empty();
         assert!(!unused, "kind {kind} with an argument");
-        let unused = kind != 5 && !commands(kind, 0, 1).is_empty();
-        assert!(!unused, "kind {kind} with columns");
-        assert!(commands(kind, 256, 0).is_empty());
-        assert!(commands(kind, 0, 65_536).is_empty());
+        for image in IMAGES {
+            let modes = kind == 6 && image == [1, 0, 0];
+            let unused = !modes && !commands(kind, 0, image).is_empty();
+            assert!(!unused, "kind {kind} with {image:?}");
+        }
+        assert!(commands(kind, 256, NO_IMAGE).is_empty());
+        assert!(commands(kind, 0, [0, 0, 65_536]).is_empty());
+        assert!(commands(kind, 0, [0, 1, 65_536]).is_empty());
     }
-    assert!(commands(5, 0, 0).is_empty() && commands(5, 1, 1).is_empty());
-    assert!(commands(6, 0, 0).is_empty());
+    assert!(commands(5, 0, NO_IMAGE).is_empty() && commands(5, 1, [0, 1, 1]).is_empty());
+    assert!(commands(7, 0, NO_IMAGE).is_empty());
+}
+
+const ONE_BYTE: [u32; 6] = [0, 1, 2, 3, 4, 6];
+const THREE_BYTES: [u32; 5] = [32, 33, 38, 39, 40];
+
+/// ESC * is waited for with nothing, with a listed mode, or with one and any
+/// byte, and not otherwise.
+#[test]
+fn the_places_of_esc_star() {
+    let star = b'*'.into();
+    let listed: Vec<u32> = ONE_BYTE.into_iter().chain(THREE_BYTES).collect();
+    for kind in 0..=300 {
+        let arguments = (0..=600).filter(|&argument| waits(kind, star, argument, NO_IMAGE));
+        let arguments: Vec<u32> = arguments.collect();
+        match kind {
+            2 => assert_eq!(arguments, [0]),
+            3 => assert_eq!(arguments, listed),
+            6 => assert!(arguments.into_iter().eq(0..=255)),
+            _ => assert!(arguments.is_empty(), "kind {kind}"),
+        }
+        let modes = (0..=600).filter(|&mode| waits(kind, star, 7, [mode, 0, 0]));
+        match kind {
+            6 => assert_eq!(modes.collect::<Vec<_>>(), listed),
+            _ => assert_eq!(modes.count(), 0, "kind {kind}"),
+        }
+        assert!(!waits(kind, star, 39, [39, 1, 0]) && !waits(kind, star, 39, [39, 0, 1]));
+    }
+}
+
+/// Image data is waited for in a listed mode, with one of the bytes of its
+/// columns.
+#[test]
+fn the_places_of_image_data() {
+    for mode in 0..=600 {
+        let bytes: Vec<u32> = (0..=300)
+            .filter(|&byte| waits(5, 0, 0, [mode, byte, 65_535]))
+            .collect();
+        match mode {
+            _ if ONE_BYTE.contains(&mode) => assert_eq!(bytes, [1]),
+            _ if THREE_BYTES.contains(&mode) => assert_eq!(bytes, [1, 2, 3]),
+            _ => assert!(bytes.is_empty(), "mode {mode}"),
+        }
+        for byte in bytes {
+            assert!(waits(5, 0, 0, [mode, byte, 1]));
+            assert!(!waits(5, 0, 0, [mode, byte, 0]) && !waits(5, 0, 0, [mode, byte, 65_536]));
+            assert!(!waits(5, 0, 1, [mode, byte, 1]));
+            assert!((1..=600).all(|command| !waits(5, command, 0, [mode, byte, 1])));
+        }
+    }
+}
+
+/// What stands in the registers after each byte of an image.
+#[test]
+fn the_registers_of_an_image() {
+    let after = |input: &[u8]| {
+        let (_, mut state) = start(300, false, 28_800);
+        read(&mut state, input, usize::MAX, &mut [0; 20 * ROOM]);
+        let state = registers(&state).unwrap();
+        let numbers = state.registers();
+        assert_eq!(numbers[3], state.image_mode);
+        numbers[..6].to_vec()
+    };
+    let star = b'*'.into();
+    assert_eq!(after(b"\x1B*"), [2, star, 0, 0, 0, 0]);
+    assert_eq!(after(b"\x1B*\x27"), [3, star, 39, 0, 0, 0]);
+    assert_eq!(after(b"\x1B*\x27\x02"), [6, star, 2, 39, 0, 0]);
+    assert_eq!(after(b"\x1B*\x27\x02\x01"), [5, 0, 0, 39, 1, 258]);
+    assert_eq!(after(b"\x1B*\x27\x02\x00A"), [5, 0, 0, 39, 2, 2]);
+    assert_eq!(after(b"\x1B*\x27\x02\x00AB"), [5, 0, 0, 39, 3, 2]);
+    assert_eq!(after(b"\x1B*\x27\x02\x00ABC"), [5, 0, 0, 39, 1, 1]);
+    assert_eq!(after(b"\x1B*\x27\x02\x00ABCDEF"), [0; 6]);
+    assert_eq!(after(b"\x1B*\x27\x00\x00"), [0; 6]);
+    assert_eq!(after(b"\x1B*\x05"), [0; 6]);
+    for (mode, command) in (0..).zip(*b"KLYZ") {
+        let command = u32::from(command);
+        let escape = [0x1B, command as u8, 2, 0, 9];
+        assert_eq!(after(&escape[..3]), [3, command, 2, 0, 0, 0]);
+        assert_eq!(after(&escape[..4]), [5, 0, 0, mode, 1, 2]);
+        assert_eq!(after(&escape), [5, 0, 0, mode, 1, 1]);
+    }
 }
 
 /// ESC i is waited for with nothing, or with "a", and not otherwise.
@@ -184,17 +288,19 @@ fn the_places_of_esc_i() {
     let mut such = Vec::new();
     for kind in 0..=300 {
         for argument in 0..=600 {
-            if waits(kind, b'i'.into(), argument, 0) {
+            if waits(kind, b'i'.into(), argument, NO_IMAGE) {
                 such.push((kind, argument));
             }
-            assert!(!waits(kind, b'i'.into(), argument, 1));
+            assert!(IMAGES
+                .iter()
+                .all(|&image| !waits(kind, b'i'.into(), argument, image)));
         }
     }
     assert_eq!(such, [(2, 0), (3, b'a'.into())]);
     let plain = |input: &[u8]| {
         let (_, mut state) = start(300, false, 28_800);
         read(&mut state, input, usize::MAX, &mut [0; 4 * ROOM]);
-        let state = registers(&state, 0).unwrap();
+        let state = registers(&state).unwrap();
         (state.kind, state.command, state.argument)
     };
     assert_eq!(plain(b"\x1Bi"), (2, b'i'.into(), 0));
@@ -202,22 +308,6 @@ fn the_places_of_esc_i() {
     for done in [&b"\x1Bia\x00"[..], b"\x1BiS", b"\x1Bis", b"\x1Bia\x01"] {
         assert_eq!(plain(done), (0, 0, 0));
     }
-}
-
-#[test]
-fn image_commands_are_followed() {
-    let (_, state) = start(300, false, 28_800);
-    assert_eq!(image_command(&state, 0, b"\x1BY\x02\x00L"), b'Y');
-    assert_eq!(
-        image_command(&state, 0, b"\x1BY\x01\x00A\x1BL\x01\x00"),
-        b'L'
-    );
-    let mut state = state;
-    state.waiting = Waiting::Image {
-        units: 30,
-        columns: 9,
-    };
-    assert_eq!(image_command(&state, b'Y', b"\x1BL\x01\x00"), b'Y');
 }
 
 #[test]

@@ -1,5 +1,6 @@
 //! The bounds that say what a state of ours is.
 
+use crate::images::Mode;
 use crate::state::{
     State, Stops, Waiting, LARGEST_LINE, LARGEST_SPACING, LONGEST_PAGE, MOST_HORIZONTAL_STOPS,
     MOST_VERTICAL_STOPS, NARROWEST_PAPER, SHORTEST_PAGE, WIDEST_PAPER,
@@ -77,8 +78,13 @@ impl State {
                 let place = u64::from(last) * u64::from(self.line_amount);
                 self.gathered.gathered_in_bounds(&VERTICAL, place)
             }
-            Waiting::Image { units, columns } => {
-                matches!(units, 60 | 30 | 15) && (1..=65_535).contains(&columns)
+            Waiting::ImageMode => true,
+            Waiting::ColumnsLow { mode } | Waiting::ColumnsHigh { mode, .. } => {
+                Mode::listed(mode).is_some()
+            }
+            Waiting::Image { mode, nth, columns } => {
+                Mode::listed(mode).is_some_and(|mode| (1..=mode.bytes).contains(&nth))
+                    && (1..=65_535).contains(&columns)
             }
         }
     }

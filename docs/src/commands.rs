@@ -33,7 +33,10 @@ impl Reading<'_> {
             Waiting::Arguments { command, first, .. } => self.second_argument(command, first, byte),
             Waiting::HorizontalStops { last } => self.horizontal_stop(last, byte),
             Waiting::VerticalStops { last } => self.vertical_stop(last, byte),
-            Waiting::Image { units, columns } => self.image_column(byte, units, columns),
+            Waiting::ImageMode => self.image_mode(byte),
+            Waiting::ColumnsLow { mode } => self.columns_low(mode, byte),
+            Waiting::ColumnsHigh { mode, low } => self.columns_high(mode, low, byte),
+            Waiting::Image { nth, columns, .. } => self.image_byte(byte, nth, columns),
         }
     }
 
@@ -104,6 +107,7 @@ impl Reading<'_> {
             b'B' => self.begin_vertical_stops(),
             b'D' => self.begin_horizontal_stops(),
             b'i' => self.state.waiting = Waiting::ThirdByte,
+            b'*' => self.state.waiting = Waiting::ImageMode,
             b'P' => self.set_width(|state| state.pitch = 10),
             b'M' => self.set_width(|state| state.pitch = 12),
             b'g' => self.set_width(|state| state.pitch = 15),
@@ -214,9 +218,10 @@ impl Reading<'_> {
             }
             b'C' if (1..=22).contains(&b) => return self.set_page_length(3_600 * u32::from(b)),
             b'C' => return Err(Reason::NotAllowed),
-            b'K' => self.await_image(60, u32::from(number)),
-            b'Z' => self.await_image(15, u32::from(number)),
-            _ => self.await_image(30, u32::from(number)),
+            b'K' => self.await_columns(0, number.into()),
+            b'L' => self.await_columns(1, number.into()),
+            b'Y' => self.await_columns(2, number.into()),
+            _ => self.await_columns(3, number.into()),
         }
         Ok(())
     }

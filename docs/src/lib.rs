@@ -6,6 +6,7 @@
 
 mod bounds;
 mod commands;
+mod images;
 mod place;
 mod reading;
 mod records;

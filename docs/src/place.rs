@@ -1,8 +1,8 @@
-//! Letters, images, feeds, tabs and moves: what sets and moves the place.
+//! Letters, feeds, tabs and moves: what sets and moves the place.
 
 use crate::reading::Reading;
 use crate::records::{Reason, Record, NEW_TOP};
-use crate::state::{State, Waiting, LONGEST_PAGE, SHORTEST_PAGE};
+use crate::state::{State, LONGEST_PAGE, SHORTEST_PAGE};
 
 impl Reading<'_> {
     /// A letter: placed, placed after an automatic line, or passed over.
@@ -34,29 +34,8 @@ impl Reading<'_> {
         self.state.across += self.advance;
     }
 
-    /// One byte of image data.
-    #[inline(always)]
-    pub fn image_column(&mut self, byte: u8, units: u32, columns: u32) {
-        self.await_image(units, columns - 1);
-        if self.fits(units) {
-            let record = self.image_record(self.state.column(), byte, units);
-            self.records.put(&record);
-            self.state.across += units;
-        } else {
-            self.records.passed_over(byte, Reason::DoesNotFit);
-        }
-    }
-
-    /// Waits for so many columns of image data, if any.
-    pub fn await_image(&mut self, units: u32, columns: u32) {
-        self.state.waiting = match columns {
-            0 => Waiting::Nothing,
-            _ => Waiting::Image { units, columns },
-        };
-    }
-
     /// Whether so much more fits on the line.
-    fn fits(&self, units: u32) -> bool {
+    pub fn fits(&self, units: u32) -> bool {
         self.state.across + units <= self.state.right
     }
 
@@ -71,18 +50,6 @@ impl Reading<'_> {
             style: self.style,
             country: self.state.country,
             advance: self.advance as u16,
-        }
-    }
-
-    /// IM on the present row, in this column.
-    pub fn image_record(&self, column: u16, byte: u8, units: u32) -> Record {
-        Record {
-            mark: *b"IM",
-            column,
-            row: self.row,
-            byte,
-            advance: units as u16,
-            ..Record::default()
         }
     }
 

@@ -1,5 +1,6 @@
 //! A reading call under way.
 
+use crate::images::Mode;
 use crate::records::Records;
 use crate::state::State;
 use crate::ROOM_FOR_A_BYTE;
@@ -17,9 +18,12 @@ pub struct Reading<'a> {
     pub column_width: u32,
     /// The dot row of the place down.
     pub row: u16,
+    /// The mode of the image data that is waited for, if any is.
+    pub mode: Mode,
 }
 
 impl<'a> Reading<'a> {
+    #[inline(always)]
     pub fn new(state: &'a mut State, out: &'a mut [u8]) -> Self {
         let advance = state.advance();
         Reading {
@@ -27,6 +31,7 @@ impl<'a> Reading<'a> {
             advance,
             column_width: state.column_width(advance),
             row: state.row(),
+            mode: Mode::of(state.waiting),
             state,
             records: Records::new(out),
         }

@@ -98,11 +98,11 @@ impl<'a> Records<'a> {
         self.written = end;
     }
 
-    /// The places of the next records, one for each byte that may be read: the
-    /// last record's room stays free.
-    pub fn places(&mut self) -> std::slice::ChunksExactMut<'_, u8> {
+    /// The places of the next records, so many together, one record for each
+    /// byte that may be read: the last record's room stays free.
+    pub fn places(&mut self, together: usize) -> std::slice::ChunksExactMut<'_, u8> {
         let end = self.out.len() - RECORD_SIZE;
-        self.out[self.written..end].chunks_exact_mut(RECORD_SIZE)
+        self.out[self.written..end].chunks_exact_mut(together * RECORD_SIZE)
     }
 
     /// So many of these places were written to.

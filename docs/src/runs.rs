@@ -2,8 +2,10 @@
 //! records have in common is reckoned once.
 
 use crate::reading::Reading;
+use crate::records::{Words, RECORD_SIZE};
 use crate::state::{dot_parts, whole_dots, Waiting};
 use crate::ROOM_FOR_A_BYTE;
+use std::array::from_fn;
 
 impl Reading<'_> {
     /// As [`Reading::bytes`], in runs.
@@ -25,9 +27,11 @@ impl Reading<'_> {
                 return 1;
             }
             Waiting::Nothing if self.a_letter_follows(input) => self.letters(input),
-            Waiting::Image { units, columns } if input.len() > 1 => {
-                self.image(input, units, columns)
-            }
+            Waiting::Image {
+                mode,
+                nth: 1,
+                columns,
+            } if input.len() > 1 => self.image(input, mode, columns),
             _ => 0,
         };
         if placed == 0 {
@@ -54,7 +58,7 @@ impl Reading<'_> {
         let mut parts = dot_parts(self.state.across, resolution);
         let words = self.letter_record(0, 0).words();
         let mut count = 0;
-        for (&byte, out) in input.iter().zip(self.records.places()) {
+        for (&byte, out) in input.iter().zip(self.records.places(1)) {
             if parts > last || !self.state.is_letter(byte) {
                 break;
             }
@@ -62,34 +66,52 @@ impl Reading<'_> {
             parts += step;
             count += 1;
         }
-        self.placed(count, self.advance);
+        self.placed(count, count as u32 * self.advance);
         count
     }
 
-    /// Places the image data that the input begins with, as far as it fits;
-    /// how many columns.
+    /// Places the image columns that the input begins with, as far as they are
+    /// whole and fit; how many bytes.
     #[inline(never)]
-    fn image(&mut self, input: &[u8], units: u32, columns: u32) -> usize {
-        let fit = (self.state.right - self.state.across) / units;
-        let bytes = &input[..input.len().min(columns.min(fit) as usize)];
+    fn image(&mut self, input: &[u8], mode: u8, columns: u32) -> usize {
+        let count = match self.mode.bytes {
+            1 => self.image_columns::<1>(input, columns),
+            _ => self.image_columns::<3>(input, columns),
+        };
+        let bytes = count * usize::from(self.mode.bytes);
+        self.placed(bytes, count as u32 * self.mode.units);
+        self.await_columns(mode, columns - count as u32);
+        bytes
+    }
+
+    /// Writes the records of such columns, each of so many bytes; how many
+    /// columns.
+    #[inline(always)]
+    fn image_columns<const BYTES: usize>(&mut self, input: &[u8], columns: u32) -> usize {
+        let fit = (self.state.right - self.state.across) / self.mode.units;
+        let most = BYTES * columns.min(fit) as usize;
+        let columns = input[..input.len().min(most)].chunks_exact(BYTES);
         let resolution = self.state.resolution;
-        let step = units * resolution;
+        let step = self.mode.units * resolution;
         let mut parts = dot_parts(self.state.across, resolution);
-        let words = self.image_record(0, 0, units).words();
+        let words: [Words; BYTES] =
+            from_fn(|at| self.image_record(0, 0, self.mode, at as u8 + 1).words());
         let mut count = 0;
-        for (&byte, out) in bytes.iter().zip(self.records.places()) {
-            out.copy_from_slice(&words.with(whole_dots(parts), byte).bytes());
+        for (bytes, out) in columns.zip(self.records.places(BYTES)) {
+            let dots = whole_dots(parts);
+            let records = out.chunks_exact_mut(RECORD_SIZE);
+            for ((&byte, words), record) in bytes.iter().zip(&words).zip(records) {
+                record.copy_from_slice(&words.with(dots, byte).bytes());
+            }
             parts += step;
             count += 1;
         }
-        self.placed(count, units);
-        self.await_image(units, columns - count as u32);
         count
     }
 
-    /// Goes on after so many records, each so wide.
-    fn placed(&mut self, count: usize, units: u32) {
-        self.records.wrote(count);
-        self.state.across += count as u32 * units;
+    /// Goes on after so many records, which move the place so far.
+    fn placed(&mut self, records: usize, units: u32) {
+        self.records.wrote(records);
+        self.state.across += units;
     }
 }

@@ -66,9 +66,22 @@ pub enum Waiting {
     VerticalStops {
         last: u8,
     },
-    /// Image data: the units of a column and the columns left.
+    /// The mode of ESC *.
+    ImageMode,
+    /// The low byte of the columns of ESC *, after this mode.
+    ColumnsLow {
+        mode: u8,
+    },
+    /// The high byte of the columns of ESC *, after this mode and low byte.
+    ColumnsHigh {
+        mode: u8,
+        low: u8,
+    },
+    /// Image data: the mode's number, which byte of its column comes, from 1
+    /// on, and the columns left, the begun one included.
     Image {
-        units: u32,
+        mode: u8,
+        nth: u8,
         columns: u32,
     },
 }

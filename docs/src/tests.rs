@@ -3,6 +3,7 @@
 mod answers;
 mod bounds;
 mod hand_checked;
+mod images;
 mod interlock;
 mod narrow_paper;
 mod open_points;

@@ -16,7 +16,8 @@ pub const NEW_TOP: u8 = 255;
 /// [`Record::No`]: no control byte, escape or third byte of ESC i that is
 /// listed.
 pub const UNLISTED: u8 = 1;
-/// [`Record::No`]: an argument or a setting that is not allowed.
+/// [`Record::No`]: an argument or a setting that is not allowed; a mode of
+/// ESC * that is not listed.
 pub const NOT_ALLOWED: u8 = 2;
 /// [`Record::No`]: past margin, page or stop limits.
 pub const PAST_LIMITS: u8 = 3;
@@ -50,6 +51,10 @@ pub enum Record {
         column: u16,
         row: u16,
         byte: u8,
+        /// Which byte of its column, 1 to 3 from the top, where one has three;
+        /// else 0. It stands in the font's place.
+        part: u8,
+        /// The width of its column, in each of its bytes.
         advance: u16,
     },
     /// A line fed or a page turned.
@@ -92,6 +97,7 @@ impl Record {
                 column,
                 row,
                 byte,
+                part: bytes[7],
                 advance,
             }),
             [b'L', b'N'] => Some(Record::Ln { row, pages: byte }),

@@ -4,7 +4,7 @@
 use std::mem::transmute;
 
 /// The numbers of a state.
-pub const REGISTERS: usize = 138;
+pub const REGISTERS: usize = 140;
 /// The room of a list of tab stops.
 pub const TAB_STOPS: usize = 32;
 /// The most horizontal tab stops.
@@ -17,15 +17,17 @@ pub const NOTHING: u32 = 0;
 /// [`State::kind`]: an escape's second byte.
 pub const SECOND_BYTE: u32 = 1;
 /// [`State::kind`]: the first argument of an escape, or its only one; the third
-/// byte of ESC i.
+/// byte of ESC i; the mode of ESC *.
 pub const FIRST_ARGUMENT: u32 = 2;
 /// [`State::kind`]: the second argument; that of ESC C after 0; that of ESC i
-/// after "a".
+/// after "a"; the low byte of ESC *.
 pub const SECOND_ARGUMENT: u32 = 3;
 /// [`State::kind`]: a byte of a tab stop list.
 pub const STOP_LIST: u32 = 4;
 /// [`State::kind`]: image data.
 pub const IMAGE_DATA: u32 = 5;
+/// [`State::kind`]: the third argument: the high byte of ESC *.
+pub const THIRD_ARGUMENT: u32 = 6;
 
 /// What a start is asked for. Any numbers whatever may be passed.
 #[repr(C)]
@@ -62,19 +64,27 @@ pub struct Stops {
 #[repr(C)]
 #[derive(Clone, Copy, PartialEq, Eq, Debug)]
 pub struct State {
-    /// What is waited for, [`NOTHING`] to [`IMAGE_DATA`]. Of the next three, a
+    /// What is waited for, [`NOTHING`] to [`THIRD_ARGUMENT`]. Of the next five, a
     /// number that the kind does not use is 0.
     pub kind: u32,
-    /// Kinds 2 to 5: the escape's second byte: of kind 2 one that takes
+    /// Kinds 2, 3, 4 and 6: the escape's second byte: of kind 2 one that takes
     /// arguments, as 41h for ESC A, or i, which takes a third byte; of kind 3
     /// one that takes two ($, \\, K, L, Y or Z), or C, whose first argument is
-    /// then 0, or i, whose third byte is then 61h, "a"; of kind 4 B or D; of
-    /// kind 5 K, L, Y or Z.
+    /// then 0, or i, whose third byte is then 61h, "a", or *, whose first
+    /// argument is then a mode that is listed; of kind 4 B or D; of kind 6 *.
     pub command: u32,
-    /// Kind 3: the one that came, 0 to 255; kind 4: the list byte before, 0 at
-    /// the beginning.
+    /// Kinds 3 and 6: the last that came, 0 to 255, of * in kind 3 the mode's
+    /// number; kind 4: the list byte before, 0 at the beginning.
     pub argument: u32,
-    /// Kind 5: the image columns left, 1 to 65,535.
+    /// Kinds 5 and 6: the mode's number. 0, 1, 2, 3, 4 and 6 have one byte a
+    /// column, 60, 30, 30, 15, 45 and 40 units wide; 32, 33, 38, 39 and 40 have
+    /// three, 60, 30, 40, 20 and 10 units wide. The data of ESC K, L, Y and Z
+    /// are modes 0, 1, 2 and 3.
+    pub image_mode: u32,
+    /// Kind 5: which byte of its column comes next: 1 to 3 in modes of three
+    /// bytes, 1 in the others.
+    pub image_byte: u32,
+    /// Kind 5: the image columns left, the begun one included, 1 to 65,535.
     pub image_columns: u32,
     /// Where the next letter stands, from the left of the paper: left to
     /// right, both included.

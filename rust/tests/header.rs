@@ -311,7 +311,7 @@ fn mark(letters: &[u8; 2]) -> usize {
 
 #[test]
 fn constants_are_those_of_the_header() {
-    let constants: [(&str, usize); 30] = [
+    let constants: [(&str, usize); 31] = [
         ("INPUT_USED", ierbulosc::INPUT_USED.into()),
         ("ALLOWANCE_USED", ierbulosc::ALLOWANCE_USED.into()),
         ("OUTPUT_FULL", ierbulosc::OUTPUT_FULL.into()),
@@ -331,6 +331,7 @@ fn constants_are_those_of_the_header() {
         ("SECOND_ARGUMENT", ierbulosc::SECOND_ARGUMENT as usize),
         ("STOP_LIST", ierbulosc::STOP_LIST as usize),
         ("IMAGE_DATA", ierbulosc::IMAGE_DATA as usize),
+        ("THIRD_ARGUMENT", ierbulosc::THIRD_ARGUMENT as usize),
         ("TX", mark(b"TX")),
         ("IM", mark(b"IM")),
         ("LN", mark(b"LN")),
@@ -388,6 +389,7 @@ fn records_are_filled_as_in_the_header() {
         column: filled("column", &b),
         row: filled("row", &b),
         byte: one_byte("byte", &b),
+        part: one_byte("font", &b),
         advance: filled("advance", &b),
     };
     assert_eq!(im, expected);

@@ -1,9 +1,9 @@
 //! The library through the safe cover.
 
 use ierbulosc::{
-    records, Record, Settings, State, Stops, ALLOWANCE_USED, COLUMNS, FIRST_ARGUMENT, INPUT_USED,
-    NEW_TOP, NOTHING, NOT_ALLOWED, OUTPUT_FULL, RECORD_SIZE, REGISTERS, ROOM, SECOND_ARGUMENT,
-    SETTINGS_REFUSED, STATE_REFUSED, STOP_LIST, UNLISTED,
+    records, Record, Settings, State, Stops, ALLOWANCE_USED, COLUMNS, FIRST_ARGUMENT, IMAGE_DATA,
+    INPUT_USED, NEW_TOP, NOTHING, NOT_ALLOWED, NO_FIT, OUTPUT_FULL, RECORD_SIZE, REGISTERS, ROOM,
+    SECOND_ARGUMENT, SETTINGS_REFUSED, STATE_REFUSED, STOP_LIST, THIRD_ARGUMENT, UNLISTED,
 };
 
 const FILL: u8 = 0xE5;
@@ -64,10 +64,10 @@ fn widths() {
 fn power_on_by_numbers() {
     let state = power_on();
     let mut expected = [0; REGISTERS];
-    expected[7..15].copy_from_slice(&[28_800, 39_600, 0, 600, 300, 300, 0, 28_800]);
-    expected[15] = 10;
-    expected[34..38].copy_from_slice(&[1, 0, 360, 360]);
-    expected[39..49].copy_from_slice(&[9, 8, 16, 24, 32, 40, 48, 56, 64, 72]);
+    expected[9..17].copy_from_slice(&[28_800, 39_600, 0, 600, 300, 300, 0, 28_800]);
+    expected[17] = 10;
+    expected[36..40].copy_from_slice(&[1, 0, 360, 360]);
+    expected[41..51].copy_from_slice(&[9, 8, 16, 24, 32, 40, 48, 56, 64, 72]);
     assert_eq!(state.registers(), expected);
     assert_eq!(State::from_registers(expected), state);
     assert_eq!(state.columns.held(), [8, 16, 24, 32, 40, 48, 56, 64, 72]);
@@ -109,6 +109,7 @@ fn records_by_name() {
         column: 0,
         row: 50,
         byte: 0x55,
+        part: 0,
         advance: 60,
     };
     let passed_over = |byte, reason| Record::No { byte, reason };
@@ -156,7 +157,7 @@ fn answers_in_order() {
 /// Each register in turn with a number that no state has there.
 #[test]
 fn a_refused_state_stays() {
-    let unseen = |at: usize| (49..72).contains(&at) || (73..REGISTERS).contains(&at);
+    let unseen = |at: usize| (51..74).contains(&at) || (75..REGISTERS).contains(&at);
     for at in (0..REGISTERS).filter(|&at| !unseen(at)) {
         let mut registers = power_on().registers();
         registers[at] += 1 << 31;
@@ -191,9 +192,10 @@ fn stops_are_gathered_then_in_force() {
     assert_eq!((state.lines_set, state.gathered), (1, Stops::NONE));
 }
 
-/// What is waited for: kind, command and argument.
+/// What is waited for: kind, command and argument; no image's data.
 fn waiting(state: &State) -> (u32, u32, u32) {
-    assert_eq!(state.image_columns, 0);
+    let image = (state.image_mode, state.image_byte, state.image_columns);
+    assert_eq!(image, (0, 0, 0));
     (state.kind, state.command, state.argument)
 }
 
@@ -229,6 +231,165 @@ fn what_is_passed_over_of_esc_i() {
     let no = |byte, reason| Record::No { byte, reason };
     assert_eq!(came, [no(b'i', NOT_ALLOWED), no(b's', UNLISTED)]);
     assert_eq!(state, power_on());
+}
+
+/// The modes of images with the bytes of a column, of document 02, E4.
+const MODES: [(u32, u32); 11] = [
+    (0, 1),
+    (1, 1),
+    (2, 1),
+    (3, 1),
+    (4, 1),
+    (6, 1),
+    (32, 3),
+    (33, 3),
+    (38, 3),
+    (39, 3),
+    (40, 3),
+];
+
+/// The bytes of a column of the mode with this number, if it is one.
+fn column_bytes(number: u32) -> Option<u32> {
+    let mut found = MODES.iter().filter(|(mode, _)| *mode == number);
+    found.next().map(|&(_, bytes)| bytes)
+}
+
+/// A state that waits for this: kind, command, argument, an image's mode, the
+/// byte of its column and the columns left.
+fn waits_for(numbers: [u32; 6]) -> State {
+    let mut registers = power_on().registers();
+    registers[..6].copy_from_slice(&numbers);
+    State::from_registers(registers)
+}
+
+/// Whether a state is one of the reader's.
+fn accepted(mut state: State) -> bool {
+    state.read(b"", 0, &mut []).answer == INPUT_USED
+}
+
+/// ESC * from byte to byte.
+#[test]
+fn an_image_is_waited_for() {
+    let mut state = power_on();
+    let mut read = |byte: u8| {
+        let report = state.read(&[byte], 1, &mut [FILL; ROOM]);
+        assert_eq!((report.answer, report.read), (INPUT_USED, 1));
+        let across = state.across;
+        let mut back = waits_for(state.registers()[..6].try_into().unwrap());
+        back.across = across;
+        assert_eq!(state, back);
+        let image = (state.image_mode, state.image_byte, state.image_columns);
+        (across, state.kind, state.command, state.argument, image)
+    };
+    let star = b'*'.into();
+    read(0x1B);
+    assert_eq!(read(b'*'), (0, FIRST_ARGUMENT, star, 0, (0, 0, 0)));
+    assert_eq!(read(39), (0, SECOND_ARGUMENT, star, 39, (0, 0, 0)));
+    assert_eq!(read(2), (0, THIRD_ARGUMENT, star, 2, (39, 0, 0)));
+    assert_eq!(read(1), (0, IMAGE_DATA, 0, 0, (39, 1, 258)));
+    assert_eq!(read(0x1B), (0, IMAGE_DATA, 0, 0, (39, 2, 258)));
+    assert_eq!(read(0x40), (0, IMAGE_DATA, 0, 0, (39, 3, 258)));
+    assert_eq!(read(0xFF), (20, IMAGE_DATA, 0, 0, (39, 1, 257)));
+}
+
+/// ESC K, L, Y and Z are modes 0, 1, 2 and 3, and leave the very state.
+#[test]
+fn other_escapes_of_images_are_modes() {
+    for (mode, code) in (0..).zip(*b"KLYZ") {
+        let after = |input: &[u8]| {
+            let mut state = power_on();
+            let mut out = [FILL; 9 * ROOM];
+            let report = state.read(input, usize::MAX, &mut out);
+            assert_eq!((report.answer, report.read), (INPUT_USED, input.len()));
+            (state, out)
+        };
+        let begun = after(&[0x1B, code, 2, 0, 7]);
+        assert_eq!(begun, after(&[0x1B, b'*', mode, 2, 0, 7]));
+        let numbers = [IMAGE_DATA, 0, 0, mode.into(), 1, 1];
+        assert_eq!(begun.0.registers()[..6], numbers);
+    }
+}
+
+/// Image data waited for: a listed mode, a byte of its column, 1 to 65,535
+/// columns.
+#[test]
+fn image_data_in_a_state() {
+    for mode in (0..=257).chain([1 << 16, u32::MAX]) {
+        for byte in 0..=4 {
+            for columns in [0, 1, 2, 65_535, 65_536, 65_537, u32::MAX] {
+                let bytes = column_bytes(mode);
+                let ours = bytes.is_some_and(|bytes| (1..=bytes).contains(&byte))
+                    && (1..=65_535).contains(&columns);
+                let state = waits_for([IMAGE_DATA, 0, 0, mode, byte, columns]);
+                assert_eq!(accepted(state), ours, "{mode} {byte} {columns}");
+            }
+        }
+    }
+    for other in [b'*', b'K', b'L', b'Y', b'Z'] {
+        assert!(!accepted(waits_for([IMAGE_DATA, other.into(), 0, 0, 1, 1])));
+    }
+    assert!(!accepted(waits_for([IMAGE_DATA, 0, 1, 0, 1, 1])));
+}
+
+/// Arguments of ESC * so far: none, a listed mode, a listed mode and any byte.
+#[test]
+fn arguments_of_an_image_in_a_state() {
+    let star = u32::from(b'*');
+    assert!(accepted(waits_for([FIRST_ARGUMENT, star, 0, 0, 0, 0])));
+    for number in 0..=257 {
+        let listed = column_bytes(number).is_some();
+        let state = waits_for([SECOND_ARGUMENT, star, number, 0, 0, 0]);
+        assert_eq!(accepted(state), listed, "{number}");
+        for argument in [0, 1, 255, 256] {
+            let state = waits_for([THIRD_ARGUMENT, star, argument, number, 0, 0]);
+            let ours = listed && argument < 256;
+            assert_eq!(accepted(state), ours, "{number} {argument}");
+        }
+    }
+    for kind in [FIRST_ARGUMENT, SECOND_ARGUMENT, THIRD_ARGUMENT] {
+        let numbers = [kind, star, 0, 0, 0, 0];
+        assert!(accepted(waits_for(numbers)), "{kind}");
+        for unused in [4, 5] {
+            let mut other = numbers;
+            other[unused] = 1;
+            assert!(!accepted(waits_for(other)), "{kind} {unused}");
+        }
+    }
+    for second in b"$KLYZCi" {
+        let state = waits_for([THIRD_ARGUMENT, (*second).into(), 0, 0, 0, 0]);
+        assert!(!accepted(state), "{second}");
+    }
+}
+
+/// Two columns of three bytes, of which the margin has room for one; another
+/// mode.
+#[test]
+fn image_bytes_by_name() {
+    let mut state = power_on();
+    let mut out = [FILL; 30 * ROOM];
+    let input = b"\x1B$\xDF\x01\x1B*\x20\x02\x00\x80\x00\x01\x40\x1B\x02\x1B*\x48";
+    let report = state.read(input, usize::MAX, &mut out);
+    assert_eq!((report.answer, report.read), (INPUT_USED, input.len()));
+    let came: Vec<Record> = records(&out[..report.written]).collect();
+    let placed = |byte, part| Record::Im {
+        column: 2_395,
+        row: 0,
+        byte,
+        part,
+        advance: 60,
+    };
+    let no = |byte, reason| Record::No { byte, reason };
+    let expected = [
+        placed(0x80, 1),
+        placed(0x00, 2),
+        placed(0x01, 3),
+        no(0x40, NO_FIT),
+        no(0x1B, NO_FIT),
+        no(0x02, NO_FIT),
+        no(b'*', NOT_ALLOWED),
+    ];
+    assert_eq!(came, expected);
+    assert_eq!((state.kind, state.across), (NOTHING, 28_800));
 }
 
 #[test]

@@ -6,3 +6,4 @@ use Rattle.framing.specs.declared.codes.BegunBytes.{BegunBytes}
 abbrev pub bytesOf : BegunBytes → List ℕ
 bytesOf (BegunBytes.Code c) = c ∷ []
 bytesOf (BegunBytes.Argument c a) = c ∷ a ∷ []
+bytesOf (BegunBytes.Arguments c a b) = c ∷ a ∷ b ∷ []

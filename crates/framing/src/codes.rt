@@ -4,11 +4,13 @@ use printer::commands::Choice;
 use printer::commands::Control;
 use printer::commands::Density;
 use printer::commands::First;
+use printer::commands::ImageMode;
 use printer::commands::Mode;
 use printer::commands::Move;
 use printer::commands::One;
 use printer::commands::Parameter;
 use printer::commands::Second;
+use printer::commands::Selected;
 use printer::commands::Side;
 use printer::commands::Switch;
 use printer::commands::Tabs;
@@ -18,8 +20,8 @@ ghost use mathlib.Core.Path.{_≡_};
 ghost use mathlib.Core.List.{_++_};
 ghost use Rattle.printer.specs.Tools.{lookup, coded};
 ghost use Rattle.printer.specs.Escapes.{parameterRow, choiceRow};
-ghost use Rattle.printer.specs.Codes.{oneCode, twoCode, secondCode, begunBy, argumentEscapes, otherEscapes};
-ghost use Rattle.printer.specs.Framing.{firstOf, secondOf};
+ghost use Rattle.printer.specs.Codes.{oneCode, twoCode, secondCode, imageModeNumber, begunBy, argumentEscapes, otherEscapes};
+ghost use Rattle.printer.specs.Framing.{firstOf, secondOf, selectedOf};
 ghost use Rattle.framing.specs.Codes.{bytesOf};
 
 // What a control byte is.
@@ -110,10 +112,49 @@ fn other_second(b: u8) -> Second
         b'Z' => Second::Begins(Begun::FirstOf(Two::Image(Density::Quadruple))),
         b'C' => Second::Begins(Begun::PageLength),
         b'i' => Second::Begins(Begun::Advanced),
+        b'*' => Second::Begins(Begun::SelectMode),
         b'D' => Second::List(Tabs::Horizontal),
         b'B' => Second::List(Tabs::Vertical),
         b'@' => Second::Reset,
         _ => Second::Unlisted,
+    }
+}
+
+// The mode that a byte of ESC * selects.
+pub fn selected_of(b: u8) -> Selected
+    ensures { λ r. ⌜ r ≡ selectedOf b ⌝ }
+{
+    match b {
+        0 => Selected::Mode(ImageMode::Single),
+        1 => Selected::Mode(ImageMode::Double),
+        2 => Selected::Mode(ImageMode::DoubleSpeed),
+        3 => Selected::Mode(ImageMode::Quadruple),
+        4 => Selected::Mode(ImageMode::Crt80),
+        6 => Selected::Mode(ImageMode::Crt90),
+        32 => Selected::Mode(ImageMode::Single24),
+        33 => Selected::Mode(ImageMode::Double24),
+        38 => Selected::Mode(ImageMode::Crt24),
+        39 => Selected::Mode(ImageMode::Triple24),
+        40 => Selected::Mode(ImageMode::Hex24),
+        _ => Selected::Unlisted,
+    }
+}
+
+pub fn image_mode_number(m: ImageMode) -> u8
+    ensures { λ r. ⌜ r ≡ imageModeNumber m ⌝ }
+{
+    match m {
+        ImageMode::Single => 0,
+        ImageMode::Double => 1,
+        ImageMode::DoubleSpeed => 2,
+        ImageMode::Quadruple => 3,
+        ImageMode::Crt80 => 4,
+        ImageMode::Crt90 => 6,
+        ImageMode::Single24 => 32,
+        ImageMode::Double24 => 33,
+        ImageMode::Crt24 => 38,
+        ImageMode::Triple24 => 39,
+        ImageMode::Hex24 => 40,
     }
 }
 
@@ -177,7 +218,7 @@ fn move_code(m: Move) -> u8
     }
 }
 
-pub fn image_code(d: Density) -> u8
+fn image_code(d: Density) -> u8
     ensures { λ r. ⌜ r ≡ twoCode (Two.Image d) ⌝ }
 {
     match d {
@@ -206,10 +247,11 @@ pub fn list_code(t: Tabs) -> u8
     }
 }
 
-// The second byte, and the argument after it if one was received.
+// The second byte, and the arguments after it as far as they were received.
 pub enum BegunBytes {
     Code(u8),
     Argument(u8, u8),
+    Arguments(u8, u8, u8),
 }
 
 // The bytes received of an escape whose arguments are still waited for.
@@ -224,5 +266,8 @@ pub fn begun_bytes(w: Begun) -> BegunBytes
         Begun::CommandMode => BegunBytes::Argument(b'i', b'a'),
         Begun::FirstOf(c) => BegunBytes::Code(two_code(c)),
         Begun::SecondOf(c, a) => BegunBytes::Argument(two_code(c), a),
+        Begun::SelectMode => BegunBytes::Code(b'*'),
+        Begun::ColumnsLow(m) => BegunBytes::Argument(b'*', image_mode_number(m)),
+        Begun::ColumnsHigh(m, a) => BegunBytes::Arguments(b'*', image_mode_number(m), a),
     }
 }

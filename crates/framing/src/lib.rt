@@ -3,10 +3,11 @@ pub mod codes;
 
 use printer::commands::Density;
 use printer::commands::First;
+use printer::commands::ImageMode;
 use printer::commands::Waiting;
 ghost use mathlib.Core.Path.{_≡_};
 ghost use Rattle.printer.specs.Tools.{pick};
-ghost use Rattle.printer.specs.Framing.{readAs, firstOf, imageWait};
+ghost use Rattle.printer.specs.Framing.{readAs, firstOf, densityMode, imageWait};
 ghost use Rattle.framing.specs.Letters.{printsFrom};
 
 // The first byte above 7Fh that is a letter, by whether 80h to 9Fh print.
@@ -46,12 +47,24 @@ pub fn first(upper: bool, b: u8) -> First
     codes::first_of(read_as(upper, b))
 }
 
-// So many bytes of image data are waited for; none is nothing.
-pub fn image_wait(d: Density, n: u16) -> Waiting
-    ensures { λ r. ⌜ r ≡ imageWait d n ⌝ }
+// ESC K, L, Y, Z are modes 0 to 3.
+pub fn density_mode(d: Density) -> ImageMode
+    ensures { λ r. ⌜ r ≡ densityMode d ⌝ }
+{
+    match d {
+        Density::Single => ImageMode::Single,
+        Density::Double => ImageMode::Double,
+        Density::DoubleSpeed => ImageMode::DoubleSpeed,
+        Density::Quadruple => ImageMode::Quadruple,
+    }
+}
+
+// So many columns of image data are waited for, from the first byte of one; none is nothing.
+pub fn image_wait(m: ImageMode, n: u16) -> Waiting
+    ensures { λ r. ⌜ r ≡ imageWait m n ⌝ }
 {
     if n == 0 {
         return Waiting::Nothing;
     }
-    Waiting::ImageData(d, n)
+    Waiting::ImageData(m, 1, n)
 }

@@ -9,15 +9,15 @@ use lib.Dec.{leb}
 use lib.ListN.{length}
 use borrow.Author.Tests.{leb-true, leb-false, le-leb, ne-eqb}
 use Rattle.printer.specs.Tools.{pick, either, within}
-use Rattle.printer.specs.Framing.{isLetter, frame, imageWait}
+use Rattle.printer.specs.Framing.{isLetter, frame, imageWait, afterImageByte}
 use Rattle.printer.specs.Records.{recordSize, roomForByte, letterRecord, imageRecord}
 use Rattle.printer.specs.Settings.{rightOf, acrossOf, advanceOf}
-use Rattle.printer.specs.Performing.{performAll, recordsAll}
+use Rattle.printer.specs.Performing.{columnMove, columnPart, performAll, recordsAll}
 use Rattle.printer.specs.Deciding.{attempt, letterEvents}
 use Rattle.printer.specs.Steps.{waitFor, stepEvents, stepOf, stepRecords, stateAfter, recordsOver}
 use Rattle.printer.specs.Units.{perInchAcross, rounded}
-use Rattle.printer.specs.Widths.{imageStep}
-use Rattle.printer.specs.declared.commands.Density.{Density}
+use Rattle.printer.specs.Widths.{imageStep, imageBytes}
+use Rattle.printer.specs.declared.commands.ImageMode.{ImageMode}
 use Rattle.printer.specs.declared.commands.Waiting.{Waiting}
 use Rattle.printer.specs.declared.records.Record.{Record}
 use Rattle.printer.specs.declared.state.Printer.{Printer}
@@ -25,6 +25,7 @@ use Rattle.printer.proofs.CodeLaws.{both-true}
 use Rattle.interpreter.specs.Leaving.{movedTo}
 use Rattle.framing.specs.Letters.{printsFrom}
 use Rattle.interpreter.specs.Series.{likeAt, placedAll, AllPrint}
+use Rattle.interpreter.specs.Columns.{partsWait}
 use Rattle.interpreter.specs.Taking.{Letters, RoomForEach}
 use Rattle.interpreter.proofs.Runs.{state-cons, records-cons, room-cons}
 
@@ -34,12 +35,12 @@ pub record AreRead (p : Printer) (l : List ℕ) (room : ℕ) (q : Printer) (k : 
   pub state : stateAfter p l ≡ q
   pub records : recordsOver p l ≡ k
 
-none-read : (p : Printer) (room : ℕ) → AreRead p [] room p []
+pub none-read : (p : Printer) (room : ℕ) → AreRead p [] room p []
 unfolding RoomForEach stateAfter recordsOver
 none-read p room = record { enough = tt; state = refl; records = refl }
 
 -- a byte that writes one record, before others
-more-read : {p q : Printer} {b room : ℕ} {l : List ℕ} {r : Record} {k : List Record} (next : Printer)
+pub more-read : {p q : Printer} {b room : ℕ} {l : List ℕ} {r : Record} {k : List Record} (next : Printer)
     → roomForByte ≤ room → stepOf p b ≡ next → stepRecords p b ≡ r ∷ [] → AreRead next l (room - recordSize) q k
     → AreRead p (b ∷ l) room q (r ∷ k)
 more-read {p} {q} {b} {room} {l} next h e f v =
@@ -88,40 +89,42 @@ letters-read (b ∷ l) p room e h f g =
 
 -- Image bytes
 
-module _ (p : Printer) (d : Density) (n b : ℕ) (e : p .waiting ≡ Waiting.ImageData d n)
-    (f : acrossOf (p .place) + imageStep d ≤ rightOf (p .settings)) where
-  image-state : stepOf p b ≡ waitFor (movedTo p (acrossOf (p .place) + imageStep d)) (imageWait d (n - 1))
+module _ (p : Printer) (m : ImageMode) (k n b : ℕ) (e : p .waiting ≡ Waiting.ImageData m k n)
+    (f : acrossOf (p .place) + imageStep m ≤ rightOf (p .settings)) where
+  pub image-state : stepOf p b ≡ waitFor (movedTo p (acrossOf (p .place) + columnMove m k)) (afterImageByte m k n)
   unfolding stepOf stepEvents frame attempt performAll
   image-state = rw (e, le-leb _ _ f)
 
-  image-records : stepRecords p b ≡ imageRecord (p .settings) (p .place) b (imageStep d) ∷ []
+  pub image-records : stepRecords p b ≡ imageRecord (p .settings) (p .place) b (columnPart m k) (imageStep m) ∷ []
   unfolding stepRecords stepEvents frame attempt recordsAll
   image-records = rw (e, le-leb _ _ f)
 
--- IM but for its column and its byte
-abbrev pub imageLike : Printer → Density → Record
-imageLike p d = likeAt (imageRecord (p .settings) (p .place) 0 (imageStep d)) 0 0
+-- IM but for its column, its part and its byte
+abbrev pub imageLike : Printer → ImageMode → Record
+imageLike p m = likeAt (imageRecord (p .settings) (p .place) 0 0 (imageStep m)) 0 0
 
-pub some-columns : (d : Density) (n : ℕ) → 1 ≤ n → imageWait d n ≡ Waiting.ImageData d n
-some-columns d n h = rw (ne-eqb n 0 (λ e. omega arith))
+pub some-columns : (m : ImageMode) (k n : ℕ) → 1 ≤ n → partsWait m k n ≡ Waiting.ImageData m k n
+some-columns m k n h = rw (ne-eqb n 0 (λ e. omega arith))
 
-pub images-read : (l : List ℕ) (p : Printer) (d : Density) (n room : ℕ) → p .waiting ≡ imageWait d n → length l ≤ n
-    → acrossOf (p .place) + length l * imageStep d ≤ rightOf (p .settings) → recordSize * length l + recordSize ≤ room
-    → AreRead p l room (waitFor (movedTo p (acrossOf (p .place) + length l * imageStep d)) (imageWait d (n - length l)))
-    (placedAll (imageLike p d) (perInchAcross (p .settings .setup .resolution)) (acrossOf (p .place)) (imageStep d) l)
+-- where a column has one byte
+
+pub images-read : (l : List ℕ) (p : Printer) (m : ImageMode) (n room : ℕ) → imageBytes m ≡ 1 → p .waiting ≡ imageWait m n → length l ≤ n
+    → acrossOf (p .place) + length l * imageStep m ≤ rightOf (p .settings) → recordSize * length l + recordSize ≤ room
+    → AreRead p l room (waitFor (movedTo p (acrossOf (p .place) + length l * imageStep m)) (imageWait m (n - length l)))
+    (placedAll (imageLike p m) (perInchAcross (p .settings .setup .resolution)) (acrossOf (p .place)) (imageStep m) l)
 unfolding placedAll
-images-read [] p d n room e i f g = rw (zero-mul, add-zero, sub-zero, ← e) (none-read p room)
-images-read (b ∷ l) p d n room e i f g =
-    let w = imageStep d in
+images-read [] p m n room one e i f g = rw (zero-mul, add-zero, sub-zero, ← e) (none-read p room)
+images-read (b ∷ l) p m n room one e i f g =
+    let w = imageStep m in
     let x = acrossOf (p .place) in
-    let q : Printer = waitFor (movedTo p (x + w)) (imageWait d (n - 1)) in
-    let m : x + suc (length l) * w ≡ x + w + length l * w = omega (arith, suc-mul (length l) w) in
+    let q : Printer = waitFor (movedTo p (x + w)) (imageWait m (n - 1)) in
+    let u : x + suc (length l) * w ≡ x + w + length l * w = omega (arith, suc-mul (length l) w) in
     let c : n - suc (length l) ≡ n - 1 - length l = omega arith in
-    let k : x + w ≤ rightOf (p .settings) = omega (arith, m) in
-    let z : p .waiting ≡ Waiting.ImageData d n = e ∙ some-columns d n (omega arith) in
-    rw (m, c)
-    (more-read q (omega arith) (image-state p d n b z k) (image-records p d n b z k)
-    (images-read l q d (n - 1) (room - recordSize) refl (omega arith) (omega (arith, m)) (omega arith)))
+    let k : x + w ≤ rightOf (p .settings) = omega (arith, u) in
+    let z : p .waiting ≡ Waiting.ImageData m 1 n = e ∙ some-columns m 1 n (omega arith) in
+    rw (u, c)
+    (more-read q (omega arith) (rw one at (image-state p m 1 n b z k)) (rw one at (image-records p m 1 n b z k))
+    (images-read l q m (n - 1) (room - recordSize) one refl (omega arith) (omega (arith, u)) (omega arith)))
 
 -- Letters by the first byte above 7Fh that is one
 

@@ -135,7 +135,7 @@ more-input f h = record { some-input = omega (arith, f .some-input); some-room =
 
 -- Where none is placed, nothing changes
 
-pub not-moved : (m : List ℕ) (step : ℕ) {m′ : List ℕ} {n : ℕ} → n ≡ 0 → m′ ≡ set m 4 (getD m 4 0 + n * step) → m′ ≡ m
+pub not-moved : (m : List ℕ) (step : ℕ) {m′ : List ℕ} {n : ℕ} → n ≡ 0 → m′ ≡ set m 6 (getD m 6 0 + n * step) → m′ ≡ m
 not-moved m step e k = rw e at k ∙ rw (zero-mul step, add-zero, set-getD)
 
 pub not-written : {xs ys : List ℕ} {l : List Record} {n : ℕ} → n ≡ 0 → Written xs 0 l (recordSize * n) ys → ys ≡ xs

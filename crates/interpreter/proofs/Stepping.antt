@@ -4,13 +4,13 @@ use mathlib.Core.Path.{_≡_, refl, sym, ap, _∙_}
 use mathlib.Core.Bool.{true, false}
 use mathlib.Core.List.{List}
 use lib.ListN.{getD}
-use Rattle.printer.specs.Framing.{isLetter, readAs, firstOf, secondOf, firstFrame, secondFrame, continued, listFrame, imageWait, frame}
+use Rattle.printer.specs.Framing.{isLetter, readAs, firstOf, secondOf, firstFrame, secondFrame, continued, listFrame, afterImageByte, frame}
 use Rattle.printer.specs.Performing.{performAll, recordsAll}
 use Rattle.printer.specs.Deciding.{decide}
 use Rattle.printer.specs.Steps.{frameAt, stepEvents, stepOf, stepRecords}
 use Rattle.printer.specs.declared.commands.Begun.{Begun}
 use Rattle.printer.specs.declared.commands.Command.{Command}
-use Rattle.printer.specs.declared.commands.Density.{Density}
+use Rattle.printer.specs.declared.commands.ImageMode.{ImageMode}
 use Rattle.printer.specs.declared.commands.First.{First}
 use Rattle.printer.specs.declared.commands.Frame.{Frame}
 use Rattle.printer.specs.declared.commands.Second.{Second}
@@ -27,7 +27,7 @@ use Rattle.interpreter.proofs.Writes.{none}
 
 module _ {p : Printer} {v : Pending} {w : Waiting} {m : List ℕ} (h : Current p v w m) where
   -- the frame by the registers is that of the rules
-  frame-here : (b : ℕ) {f : Frame} → f ≡ frame (isSet (getD m 34 0)) w b → frameAt p b ≡ f
+  frame-here : (b : ℕ) {f : Frame} → f ≡ frame (isSet (getD m 36 0)) w b → frameAt p b ≡ f
   frame-here b {f} e = sym (rw (upper-held (h .held), h .waits) at e)
 
   pub waited : (b : ℕ) {next : Waiting} {xs : List ℕ} {at : ℕ} → frameAt p b ≡ Frame.Waits next
@@ -43,14 +43,14 @@ module _ {p : Printer} {v : Pending} {w : Waiting} {m : List ℕ} (h : Current p
 
   -- between commands
   module _ (b : ℕ) (e : w ≡ Waiting.Nothing) where
-    between : frameAt p b ≡ frame (isSet (getD m 34 0)) Waiting.Nothing b
-    between = frame-here b (ap (λ (x : Waiting). frame (isSet (getD m 34 0)) x b) (sym e))
+    between : frameAt p b ≡ frame (isSet (getD m 36 0)) Waiting.Nothing b
+    between = frame-here b (ap (λ (x : Waiting). frame (isSet (getD m 36 0)) x b) (sym e))
 
-    pub letter-frame : isLetter (isSet (getD m 34 0)) b ≡ true → frameAt p b ≡ Frame.Whole (Command.Letter b) Waiting.Nothing
+    pub letter-frame : isLetter (isSet (getD m 36 0)) b ≡ true → frameAt p b ≡ Frame.Whole (Command.Letter b) Waiting.Nothing
     unfolding frame
     letter-frame t = between ∙ rw t
 
-    pub control-frame : {f : First} → isLetter (isSet (getD m 34 0)) b ≡ false → f ≡ firstOf (readAs (isSet (getD m 34 0)) b)
+    pub control-frame : {f : First} → isLetter (isSet (getD m 36 0)) b ≡ false → f ≡ firstOf (readAs (isSet (getD m 36 0)) b)
         → frameAt p b ≡ firstFrame f b
     unfolding frame
     control-frame t g = between ∙ rw (t, g)
@@ -71,7 +71,7 @@ module _ {p : Printer} {v : Pending} {w : Waiting} {m : List ℕ} (h : Current p
   list-frame b e = frame-here b (rw e)
 
   -- in image data
-  pub image-frame : (b : ℕ) {d : Density} {columns : ℕ} → w ≡ Waiting.ImageData d columns
-      → frameAt p b ≡ Frame.Whole (Command.ImageByte d b) (imageWait d (columns - 1))
+  pub image-frame : (b : ℕ) {mode : ImageMode} {k columns : ℕ} → w ≡ Waiting.ImageData mode k columns
+      → frameAt p b ≡ Frame.Whole (Command.ImageByte mode k b) (afterImageByte mode k columns)
   unfolding frame
   image-frame b e = frame-here b (rw e)

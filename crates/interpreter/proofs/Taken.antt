@@ -11,8 +11,8 @@ use Rattle.printer.specs.Framing.{imageWait}
 use Rattle.printer.specs.Records.{recordSize, roomForByte, letterRecord, imageRecord}
 use Rattle.printer.specs.Settings.{advanceOf}
 use Rattle.printer.specs.Steps.{stateAfter, recordsOver}
-use Rattle.printer.specs.Widths.{base, doubleWidth, advance, imageStep}
-use Rattle.printer.specs.declared.commands.Density.{Density}
+use Rattle.printer.specs.Widths.{base, doubleWidth, advance, imageStep, imageBytes}
+use Rattle.printer.specs.declared.commands.ImageMode.{ImageMode}
 use Rattle.printer.specs.declared.commands.Waiting.{Waiting}
 use Rattle.printer.specs.declared.records.Record.{Record}
 use Rattle.printer.specs.declared.settings.Pitch.{Pitch}
@@ -27,9 +27,11 @@ use Rattle.registers.proofs.Reading.{advance-held, upper-held}
 use Rattle.interpreter.specs.declared.steps.Stepping.{Stepping}
 use Rattle.interpreter.specs.Output.{Written}
 use Rattle.interpreter.specs.Series.{placedAll}
+use Rattle.interpreter.specs.Columns.{partsWait, columnsAll, Spot, FitParts}
 use Rattle.interpreter.specs.Taking.{Current, Fits, Letters, RoomForEach, StepPromise, afterByte, TurnPromise}
 use Rattle.interpreter.proofs.Places.{across-held, right-held, across-stored}
 use Rattle.interpreter.proofs.Following.{AreRead, placed-like, some-columns, letters-read, images-read}
+use Rattle.interpreter.proofs.Parts.{columns-like, parts-read}
 
 pub byte-taken : {p : Printer} {v : Pending} {input out m after : List ℕ} {back : Stepping} {left : ℕ}
     → 0 < length input → roomForByte ≤ length out → StepPromise p v (getD input 0 0) back m out 0 after
@@ -73,47 +75,56 @@ advance-positive w =
     (λ _. omega (arith, base-positive (w .pitch) (w .reduced) (w .proportional)))
     (λ _. omega (arith, base-positive (w .pitch) (w .reduced) (w .proportional)))
 
-pub step-positive : (d : Density) → 0 < imageStep d
-step-positive Density.Single = omega arith
-step-positive Density.Double = omega arith
-step-positive Density.DoubleSpeed = omega arith
-step-positive Density.Quadruple = omega arith
+-- a column has one byte or three
+pub three-bytes : (m : ImageMode) → (imageBytes m ≡ 1 → ⊥) → imageBytes m ≡ 3
+three-bytes ImageMode.Single h = absurd (h refl)
+three-bytes ImageMode.Double h = absurd (h refl)
+three-bytes ImageMode.DoubleSpeed h = absurd (h refl)
+three-bytes ImageMode.Quadruple h = absurd (h refl)
+three-bytes ImageMode.Crt80 h = absurd (h refl)
+three-bytes ImageMode.Crt90 h = absurd (h refl)
+three-bytes ImageMode.Single24 h = refl
+three-bytes ImageMode.Double24 h = refl
+three-bytes ImageMode.Crt24 h = refl
+three-bytes ImageMode.Triple24 h = refl
+three-bytes ImageMode.Hex24 h = refl
 
 dots-few : (r : Resolution) → perInchAcross r ≤ 300
 dots-few Resolution.Dots300 = omega arith
 dots-few Resolution.Dots203 = omega arith
 
 module _ {p : Printer} {v : Pending} {w : Waiting} {m : List ℕ} (h : Current p v w m) where
-  dots-held : getD m 11 0 ≡ perInchAcross (p .settings .setup .resolution)
+  dots-held : getD m 13 0 ≡ perInchAcross (p .settings .setup .resolution)
   unfolding laid
   dots-held = rw (h .held .same)
 
   -- what makes the code safe
-  pub in-margins : getD m 4 0 ≤ getD m 7 0
+  pub in-margins : getD m 6 0 ≤ getD m 9 0
   in-margins = rw (across-held (h .held), right-held (h .held)) (h .accepted .place .1 .0)
 
-  pub right-most : (getD m 7 0 ≤ 28800) × (getD m 11 0 ≤ 300)
+  pub right-most : (getD m 9 0 ≤ 28800) × (getD m 13 0 ≤ 300)
   right-most =
       let s = h .accepted .settings in
       let e = right-held (h .held) in
       (omega arith, rw dots-held (dots-few (p .settings .setup .resolution)))
 
-  pub advances : 0 < getD m 36 0
+  pub advances : 0 < getD m 38 0
   advances = rw (advance-held (h .held)) (advance-positive (p .settings .width))
 
-  -- image data is of some columns
-  pub some-column : {d : Density} {columns : ℕ} → w ≡ Waiting.ImageData d columns → 0 < columns
-  some-column {d} {columns} e =
-      let z : p .waiting ≡ Waiting.ImageData d columns = sym (h .waits) ∙ e in
-      let b = (rw z at (h .accepted .waiting)) .0 in
-      omega (arith, b)
+  -- image data is of some columns, and from a byte that a column has
+  pub image-bounds : {mode : ImageMode} {k columns : ℕ} → w ≡ Waiting.ImageData mode k columns
+      → (1 ≤ columns) × ((1 ≤ k) × (k ≤ imageBytes mode))
+  image-bounds {mode} {k} {columns} e =
+      let z : p .waiting ≡ Waiting.ImageData mode k columns = sym (h .waits) ∙ e in
+      let b = rw z at (h .accepted .waiting) in
+      (b .0, (b .1 .1 .0, b .1 .1 .1 .0))
 
   module _ {input out after : List ℕ} {n : ℕ} (left : ℕ) {r : Record} where
-    pub letters-taken : w ≡ Waiting.Nothing → Fits n (length input) (length out) (getD m 4 0) (getD m 36 0) (getD m 7 0)
-        → Letters (isSet (getD m 34 0)) (take n input) → r ≡ letterRecord (p .settings) (p .place) 0 (advanceOf (p .settings))
-        → Written out 0 (placedAll r (getD m 11 0) (getD m 4 0) (getD m 36 0) (take n input)) (recordSize * n) after
+    pub letters-taken : w ≡ Waiting.Nothing → Fits n (length input) (length out) (getD m 6 0) (getD m 38 0) (getD m 9 0)
+        → Letters (isSet (getD m 36 0)) (take n input) → r ≡ letterRecord (p .settings) (p .place) 0 (advanceOf (p .settings))
+        → Written out 0 (placedAll r (getD m 13 0) (getD m 6 0) (getD m 38 0) (take n input)) (recordSize * n) after
         → TurnPromise p v input out (record { waiting = Waiting.Nothing; read = n; written = recordSize * n; left = left })
-        (set m 4 (getD m 4 0 + n * getD m 36 0)) after
+        (set m 6 (getD m 6 0 + n * getD m 38 0)) after
     letters-taken e f l k g =
         let c : length (take n input) ≡ n = length-take-le n input (f .some-input) in
         let a = letters-read (take n input) p (length out) (sym (h .waits) ∙ e) (rw (upper-held (h .held)) at l)
@@ -122,19 +133,43 @@ module _ {p : Printer} {v : Pending} {w : Waiting} {m : List ℕ} (h : Current p
         (bytes-taken (f .some-input) (rw c at a) (across-stored (h .held) _) (sym e ∙ h .waits)
         (rw (k, dots-held, across-held (h .held), advance-held (h .held), placed-like) at g))
 
-    pub images-taken : {d : Density} {columns : ℕ} → w ≡ Waiting.ImageData d columns → n ≤ columns
-        → Fits n (length input) (length out) (getD m 4 0) (imageStep d) (getD m 7 0)
-        → r ≡ imageRecord (p .settings) (p .place) 0 (imageStep d)
-        → Written out 0 (placedAll r (getD m 11 0) (getD m 4 0) (imageStep d) (take n input)) (recordSize * n) after
-        → TurnPromise p v input out (record { waiting = imageWait d (columns - n); read = n; written = recordSize * n; left = left })
-        (set m 4 (getD m 4 0 + n * imageStep d)) after
+    pub images-taken : {mode : ImageMode} {columns : ℕ} → imageBytes mode ≡ 1 → w ≡ Waiting.ImageData mode 1 columns → n ≤ columns
+        → Fits n (length input) (length out) (getD m 6 0) (imageStep mode) (getD m 9 0)
+        → r ≡ imageRecord (p .settings) (p .place) 0 0 (imageStep mode)
+        → Written out 0 (placedAll r (getD m 13 0) (getD m 6 0) (imageStep mode) (take n input)) (recordSize * n) after
+        → TurnPromise p v input out (record { waiting = imageWait mode (columns - n); read = n; written = recordSize * n; left = left })
+        (set m 6 (getD m 6 0 + n * imageStep mode)) after
     unfolding laid
-    images-taken {d} {columns} e i f k g =
+    images-taken {mode} {columns} one e i f k g =
         let c : length (take n input) ≡ n = length-take-le n input (f .some-input) in
-        let z : p .waiting ≡ Waiting.ImageData d columns = sym (h .waits) ∙ e in
-        let b = (rw z at (h .accepted .waiting)) .0 in
-        let a = images-read (take n input) p d columns (length out) (z ∙ sym (some-columns d columns b)) (rw c i)
+        let z : p .waiting ≡ Waiting.ImageData mode 1 columns = sym (h .waits) ∙ e in
+        let a = images-read (take n input) p mode columns (length out) one (z ∙ sym (some-columns mode 1 columns (image-bounds e .0))) (rw c i)
         (rw c (rw (across-held (h .held), right-held (h .held)) at (f .in-margin))) (rw c (f .some-room)) in
         rw (across-held (h .held))
         (bytes-taken (f .some-input) (rw c at a) (across-stored (h .held) _) refl
         (rw (k, dots-held, across-held (h .held), placed-like) at g))
+
+    pub parts-taken : {mode : ImageMode} {k columns done part : ℕ} → imageBytes mode ≡ 3 → w ≡ Waiting.ImageData mode k columns
+        → FitParts n k columns (length input) (length out) (getD m 6 0) (imageStep mode) (getD m 9 0) → 0 < n → Spot done part n k
+        → r ≡ imageRecord (p .settings) (p .place) 0 0 (imageStep mode)
+        → Written out 0 (columnsAll r (getD m 13 0) (getD m 6 0) (imageStep mode) k (take n input)) (recordSize * n) after
+        → TurnPromise p v input out (record { waiting = partsWait mode part (columns - done); read = n; written = recordSize * n; left = left })
+        (set m 6 (getD m 6 0 + done * imageStep mode)) after
+    unfolding laid
+    parts-taken {mode} {k} {columns} {done} {part} three e f some s i g =
+        let c : length (take n input) ≡ n = length-take-le n input (f .some-input) in
+        let z : p .waiting ≡ Waiting.ImageData mode k columns = sym (h .waits) ∙ e in
+        let b = image-bounds e in
+        let u : k ≤ 3 = rw three at (b .1 .1) in
+        let a = parts-read (take n input) p mode k columns done part (length out) three (z ∙ sym (some-columns mode k columns (b .0)))
+        (record {
+          whole = f .whole;
+          from = (b .1 .0, u);
+          some = rw c (omega (arith, f .some-bytes, some, b .1 .0));
+          few = f .some-columns;
+          fits = rw (across-held (h .held), right-held (h .held)) at (f .in-margin);
+        })
+        (rw c s) (rw c (f .some-room)) in
+        rw (across-held (h .held))
+        (bytes-taken (f .some-input) a (across-stored (h .held) _) refl
+        (rw (i, dots-held, across-held (h .held), columns-like) at g))

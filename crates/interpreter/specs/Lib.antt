@@ -2,6 +2,7 @@ pub mod Output
 pub mod Outcome
 pub mod Doing
 pub mod Series
+pub mod Columns
 pub mod Calls
 pub mod Taking
 pub mod Searching

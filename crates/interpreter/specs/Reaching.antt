@@ -4,7 +4,9 @@ use mathlib.Core.Bool.{Bool, true, false}
 use lib.Dec.{leb, ltb, eqb}
 use Rattle.printer.specs.Tools.{pick, both}
 use Rattle.printer.specs.Units.{units}
-use Rattle.printer.specs.Performing.{relativeMove}
+use Rattle.printer.specs.Widths.{imageStep}
+use Rattle.printer.specs.Performing.{relativeMove, columnMove}
+use Rattle.printer.specs.declared.commands.ImageMode.{ImageMode}
 use Rattle.printer.specs.declared.settings.Margins.{Margins}
 use Rattle.interpreter.specs.declared.lines.Depth.{Depth}
 use Rattle.interpreter.specs.declared.positions.Position.{Position}
@@ -31,6 +33,10 @@ relativeTo m across n step =
     reach
     (pick (ltb n 0x8000) (leb (across + n * step) (m .right .0)) (leb (m .left .0 + (0x10000 - n) * step) across))
     (relativeMove across n step)
+
+-- after the k-th byte of an image column that ends within the right margin
+abbrev pub columnEnd : ImageMode → (k across right : ℕ) → Position
+columnEnd m k across right = reach (leb (across + imageStep m) right) (across + columnMove m k)
 
 -- so many columns of a width as a margin
 

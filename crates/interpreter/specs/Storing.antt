@@ -12,7 +12,7 @@ use Rattle.registers.specs.Keeping.{shownStored, doubleStored}
 
 -- ESC W: 0 ends SO too
 abbrev pub doubledIn : List ℕ → Bool → List ℕ
-doubledIn m on = doubleStored m (flag on) (flag (pick on (isSet (getD m 18 0)) false))
+doubledIn m on = doubleStored m (flag on) (flag (pick on (isSet (getD m 20 0)) false))
 
 -- ESC !: a bit as a flag
 abbrev pub bitIn : List ℕ → Shown → (argument k : ℕ) → List ℕ
@@ -21,7 +21,7 @@ bitIn m s n k = shownStored m s (flag (bit n k))
 abbrev pub masterWidthIn : List ℕ → ℕ → List ℕ
 masterWidthIn m n =
     doubledIn
-    (bitIn (bitIn (set m 15 (pitchNumber (pick (bit n 0x01) Pitch.Cpi12 Pitch.Cpi10))) Shown.Proportional n 0x02) Shown.Reduced n 0x04)
+    (bitIn (bitIn (set m 17 (pitchNumber (pick (bit n 0x01) Pitch.Cpi12 Pitch.Cpi10))) Shown.Proportional n 0x02) Shown.Reduced n 0x04)
     (bit n 0x20)
 
 abbrev pub masterEmphasisIn : List ℕ → ℕ → List ℕ

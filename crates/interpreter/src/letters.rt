@@ -6,8 +6,9 @@ use crate::output::write_record;
 use crate::positions::Position;
 use crate::positions::rightward;
 use measures::rounding;
+use measures::widths::image_bytes;
 use measures::widths::image_step;
-use printer::commands::Density;
+use printer::commands::ImageMode;
 use printer::records::Mark;
 use printer::records::Record;
 use printer::settings::Margins;
@@ -31,7 +32,9 @@ ghost use Rattle.printer.specs.Tools.{either};
 ghost use Rattle.printer.specs.Records.{recordSize, roomForByte, letterRecord, imageRecord};
 ghost use Rattle.printer.specs.Settings.{advanceOf};
 ghost use Rattle.printer.specs.Widths.{imageStep};
-ghost use Rattle.printer.specs.Performing.{automatic, perform};
+ghost use Rattle.printer.specs.Performing.{automatic, columnMove, columnPart, perform};
+ghost use Rattle.printer.specs.Units.{units};
+ghost use Rattle.interpreter.specs.Reaching.{columnEnd};
 ghost use Rattle.printer.specs.Deciding.{pagesOfLine, attempt, letterEvents};
 ghost use Rattle.printer.specs.declared.commands.Command.{Command};
 ghost use Rattle.printer.specs.declared.state.Printer.{Printer};
@@ -58,9 +61,9 @@ pub(crate) fn letter_record(m: &[u32; COUNT], b: u8) -> Record
     }
 }
 
-// IM: an image byte at the place.
-pub(crate) fn image_record(m: &[u32; COUNT], d: Density, b: u8) -> Record
-    ensures { λ r. ⌜ ((p : Printer) (v : Pending) → Held p v (now (m .entry)) → r ≡ imageRecord (p .settings) (p .place) b (imageStep d)) ⌝ }
+// IM: an image byte at the place, which is this part of its column.
+pub(crate) fn image_record(m: &[u32; COUNT], mode: ImageMode, part: u8, b: u8) -> Record
+    ensures { λ r. ⌜ ((p : Printer) (v : Pending) → Held p v (now (m .entry)) → r ≡ imageRecord (p .settings) (p .place) b part (imageStep mode)) ⌝ }
 {
     let setup = setup_in(m);
     let resolution = setup.resolution;
@@ -69,10 +72,10 @@ pub(crate) fn image_record(m: &[u32; COUNT], d: Density, b: u8) -> Record
         column: rounding::column(resolution, Units(m[ACROSS])),
         row: rounding::row(resolution, Units(m[DOWN])),
         byte: b,
-        font: 0,
+        font: part,
         style: 0,
         country: 0,
-        advance: image_step(d),
+        advance: image_step(mode),
     }
 }
 
@@ -95,19 +98,49 @@ fn print_or_pass(
     write_record(out, at, wrote)
 }
 
-// A byte of image data.
+// The number that the record of a column's byte bears.
+fn column_part(mode: ImageMode, k: u8) -> u8
+    ensures { λ r. ⌜ r ≡ columnPart mode k ⌝ }
+{
+    if image_bytes(mode) == 1 { 0 } else { k }
+}
+
+// How far the k-th byte of a column moves the place: the last by the step.
+fn column_move(mode: ImageMode, k: u8) -> Units
+    ensures { λ r. ⌜ (r ≡ units (columnMove mode k)) × (r .0 ≤ imageStep mode) ⌝ }
+{
+    if k == image_bytes(mode) {
+        image_step(mode)
+    } else {
+        Units(0)
+    }
+}
+
+// Where the place is after it, if the column fits.
+fn column_end(mode: ImageMode, k: u8, across: Units, right: Units) -> Position
+    ensures { λ r. ⌜ r ≡ columnEnd mode k (across .0) (right .0) ⌝ }
+{
+    let by = column_move(mode, k);
+    if across.0 as u64 + image_step(mode).0 as u64 <= right.0 as u64 {
+        return Position::At(Units(across.0 + by.0));
+    }
+    Position::Outside
+}
+
+// The k-th byte of an image column.
 pub(crate) fn image_byte(
     m: &mut [u32; COUNT],
-    d: Density,
+    mode: ImageMode,
+    k: u8,
     b: u8,
     out: &mut [u8],
     at: usize,
 ) -> usize
     requires { ⌜ at + recordSize ≤ length (now out) ⌝ }
-    ensures { λ n. ⌜ Does (λ (p : Printer). attempt p (Command.ImageByte d b) 4 ∷ []) (now (m .entry)) (now (m .exit)) (now (out .entry)) at n (now (out .exit)) ⌝ }
+    ensures { λ n. ⌜ Does (λ (p : Printer). attempt p (Command.ImageByte mode k b) 4 ∷ []) (now (m .entry)) (now (m .exit)) (now (out .entry)) at n (now (out .exit)) ⌝ }
 {
-    let to = rightward(Units(m[ACROSS]), image_step(d), Units(m[RIGHT]));
-    let wrote = image_record(&*m, d, b);
+    let to = column_end(mode, k, Units(m[ACROSS]), Units(m[RIGHT]));
+    let wrote = image_record(&*m, mode, column_part(mode, k), b);
     print_or_pass(m, to, wrote, b, out, at)
 }
 

@@ -1,4 +1,5 @@
 // The calls on registers.
+mod columns;
 mod controls;
 mod escapes;
 mod letters;

@@ -1,4 +1,4 @@
-// A series of bytes on a line, each placed a step further across: letters, and image bytes.
+// A series of bytes on a line, each placed a step further across: letters, and image columns of one byte.
 use framing::prints;
 use measures::rounding;
 use printer::records::Mark;
@@ -38,7 +38,7 @@ fn mark_number(mark: Mark) -> u64
     }
 }
 
-fn blank_of(v: Record) -> Blank
+pub(crate) fn blank_of(v: Record) -> Blank
     ensures { λ r. ⌜ (r ≡ blankOf v) × (r .head ≤ 18374967950353432575) ⌝ }
 {
     let mark = v.mark;
@@ -52,7 +52,7 @@ fn blank_of(v: Record) -> Blank
 }
 
 // The record's bytes, with a column and a byte, as digits: they are stored as three numbers.
-fn bytes_at(blank: Blank, column: Dots, b: u8) -> [u8; Record::SIZE]
+pub(crate) fn bytes_at(blank: Blank, column: Dots, b: u8) -> [u8; Record::SIZE]
     requires { ⌜ blank .head + 65536 * column .0 + 281474976710656 * b < 18446744073709551616 ⌝ }
     ensures { λ r. ⌜ r ≡ digits (blank .head + 65536 * column .0 + 281474976710656 * b) (blank .tail) (blank .advance) ⌝ }
 {
@@ -78,7 +78,7 @@ fn bytes_at(blank: Blank, column: Dots, b: u8) -> [u8; Record::SIZE]
 }
 
 // Writes a record's bytes from `at`.
-fn write_bytes(out: &mut [u8], at: usize, all: [u8; Record::SIZE])
+pub(crate) fn write_bytes(out: &mut [u8], at: usize, all: [u8; Record::SIZE])
     requires { ⌜ at + recordSize ≤ length (now out) ⌝ }
     ensures { λ _. ⌜ ((v : Record) → all ≡ encoded v → Written (now (out .entry)) at (v ∷ []) (at + recordSize) (now (out .exit))) ⌝ }
 {
@@ -142,7 +142,7 @@ pub(crate) fn least(a: usize, b: usize) -> usize
 }
 
 // How many steps a length has room for.
-fn steps_in(length: Units, step: Units) -> usize
+pub(crate) fn steps_in(length: Units, step: Units) -> usize
     requires { ⌜ 0 < step .0 ⌝ }
     ensures { λ r. ⌜ r * step .0 ≤ length .0 ⌝ }
 {
@@ -152,8 +152,8 @@ fn steps_in(length: Units, step: Units) -> usize
 // How many bytes may follow each other from here, each a step further: they have input and room, and end within the right margin.
 pub(crate) fn most_here(m: &[u32; COUNT], step: Units, input: usize, room: usize) -> usize
     requires { ⌜ (0 < step .0) × (roomForByte ≤ room) ⌝ }
-    requires { ⌜ getD (now m) 4 0 ≤ getD (now m) 7 0 ⌝ }
-    ensures { λ n. ⌜ Fits n input room (getD (now (m .entry)) 4 0) (step .0) (getD (now (m .entry)) 7 0) ⌝ }
+    requires { ⌜ getD (now m) 6 0 ≤ getD (now m) 9 0 ⌝ }
+    ensures { λ n. ⌜ Fits n input room (getD (now (m .entry)) 6 0) (step .0) (getD (now (m .entry)) 9 0) ⌝ }
 {
     let fitting = steps_in(Units(m[RIGHT] - m[ACROSS]), step);
     let records = room / Record::SIZE - 1;
@@ -173,12 +173,12 @@ pub(crate) fn place_run(
 ) -> Placed
     requires { ⌜ (0 < step .0) × ((some ≤ length (now input)) × (some ≤ allowance)) ⌝ }
     requires { ⌜ roomForByte ≤ length (now out) ⌝ }
-    requires { ⌜ (getD (now m) 4 0 ≤ getD (now m) 7 0) × ((getD (now m) 7 0 ≤ 28800) × (getD (now m) 11 0 ≤ 300)) ⌝ }
-    ensures { λ r. ⌜ Fits (r .count) some (length (now (out .entry))) (getD (now (m .entry)) 4 0) (step .0) (getD (now (m .entry)) 7 0)
+    requires { ⌜ (getD (now m) 6 0 ≤ getD (now m) 9 0) × ((getD (now m) 9 0 ≤ 28800) × (getD (now m) 13 0 ≤ 300)) ⌝ }
+    ensures { λ r. ⌜ Fits (r .count) some (length (now (out .entry))) (getD (now (m .entry)) 6 0) (step .0) (getD (now (m .entry)) 9 0)
         × AllPrint from (take (r .count) (now (input .entry))) ⌝ }
-    ensures { λ r. ⌜ now (m .exit) ≡ set (now (m .entry)) 4 (getD (now (m .entry)) 4 0 + r .count * step .0) ⌝ }
+    ensures { λ r. ⌜ now (m .exit) ≡ set (now (m .entry)) 6 (getD (now (m .entry)) 6 0 + r .count * step .0) ⌝ }
     ensures { λ r. ⌜ Written (now (out .entry)) 0
-        (placedAll v (getD (now (m .entry)) 11 0) (getD (now (m .entry)) 4 0) (step .0) (take (r .count) (now (input .entry))))
+        (placedAll v (getD (now (m .entry)) 13 0) (getD (now (m .entry)) 6 0) (step .0) (take (r .count) (now (input .entry))))
         (recordSize * r .count) (now (out .exit)) ⌝ }
     ensures { λ r. ⌜ r .left + r .count ≡ allowance ⌝ }
 {

@@ -15,12 +15,15 @@ use crate::output::write_passed;
 use crate::pages::page;
 use crate::pages::reset;
 use crate::pages::skip;
+use framing::codes::selected_of;
+use framing::density_mode;
 use framing::image_wait;
 use printer::commands::Begun;
 use printer::commands::First;
 use printer::commands::One;
 use printer::commands::Page;
 use printer::commands::Second;
+use printer::commands::Selected;
 use printer::commands::Tabs;
 use printer::commands::Two;
 use printer::commands::Waiting;
@@ -156,7 +159,7 @@ fn page_step(m: &mut [u32; COUNT], n: u8, out: &mut [u8], at: usize) -> Stepping
     whole(page(m, Page::Lines(n), out, at))
 }
 
-// The second of two arguments: an image's say how many bytes of data follow.
+// The second of two arguments: an image's say how many columns of data follow.
 fn two_step(m: &mut [u32; COUNT], c: Two, a: u8, b: u8, out: &mut [u8], at: usize) -> Stepping
     requires { ⌜ at + recordSize ≤ length (now out) ⌝ }
     ensures { λ r. ⌜ ((p : Printer) (v : Pending) → Current p v (Waiting.Arguments (Begun.SecondOf c a)) (now (m .entry))
@@ -164,7 +167,7 @@ fn two_step(m: &mut [u32; COUNT], c: Two, a: u8, b: u8, out: &mut [u8], at: usiz
 {
     match c {
         Two::Move(k) => whole(move_by(m, k, a, b, out, at)),
-        Two::Image(d) => waits(image_wait(d, a as u16 + 256 * (b as u16)), at),
+        Two::Image(d) => waits(image_wait(density_mode(d), a as u16 + 256 * (b as u16)), at),
     }
 }
 
@@ -193,6 +196,18 @@ fn mode_step(n: u8, out: &mut [u8], at: usize) -> Stepping
     whole(write_passed(out, at, b'i', 2))
 }
 
+// The mode of ESC *.
+fn select_step(b: u8, out: &mut [u8], at: usize) -> Stepping
+    requires { ⌜ at + recordSize ≤ length (now out) ⌝ }
+    ensures { λ r. ⌜ ((p : Printer) (v : Pending) (m : List ℕ) → Current p v (Waiting.Arguments Begun.SelectMode) m
+        → StepPromise p v b r m (now (out .entry)) at (now (out .exit))) ⌝ }
+{
+    match selected_of(b) {
+        Selected::Mode(mode) => waits(Waiting::Arguments(Begun::ColumnsLow(mode)), at),
+        Selected::Unlisted => whole(write_passed(out, at, b'*', 2)),
+    }
+}
+
 // An argument of an escape, by those so far.
 pub(crate) fn argument_step(
     m: &mut [u32; COUNT],
@@ -213,6 +228,9 @@ pub(crate) fn argument_step(
         Begun::CommandMode => mode_step(b, out, at),
         Begun::FirstOf(c) => waits(Waiting::Arguments(Begun::SecondOf(c, b)), at),
         Begun::SecondOf(c, a) => two_step(m, c, a, b, out, at),
+        Begun::SelectMode => select_step(b, out, at),
+        Begun::ColumnsLow(mode) => waits(Waiting::Arguments(Begun::ColumnsHigh(mode, b)), at),
+        Begun::ColumnsHigh(mode, a) => waits(image_wait(mode, a as u16 + 256 * (b as u16)), at),
     }
 }
 

@@ -1,4 +1,6 @@
 // A turn of a reading call: letters and control bytes until something is waited for; image bytes on a line; or one byte of an escape or a list.
+use crate::columns::parts_wait;
+use crate::columns::place_parts;
 use crate::letters::image_byte;
 use crate::letters::image_record;
 use crate::letters::letter;
@@ -14,8 +16,9 @@ use framing::codes;
 use framing::image_wait;
 use framing::prints;
 use framing::upper_letters;
+use measures::widths::image_bytes;
 use measures::widths::image_step;
-use printer::commands::Density;
+use printer::commands::ImageMode;
 use printer::commands::Waiting;
 use printer::records::Record;
 use printer::units::Units;
@@ -28,6 +31,8 @@ ghost use Prim.Native.Nat.{_+_, _≤_, _<_};
 ghost use lib.ListN.{length, getD};
 ghost use Rattle.printer.specs.Tools.{pick};
 ghost use Rattle.printer.specs.Records.{roomForByte};
+ghost use Rattle.printer.specs.Framing.{afterImageByte};
+ghost use Rattle.printer.specs.Widths.{imageBytes};
 ghost use Rattle.printer.specs.declared.commands.Waiting.{Waiting};
 ghost use Rattle.printer.specs.declared.state.Printer.{Printer};
 ghost use Rattle.registers.specs.declared.pending.Pending.{Pending};
@@ -71,7 +76,7 @@ fn take_letters(
 ) -> Turned
     requires { ⌜ Kept Waiting.Nothing (now m) ⌝ }
     requires { ⌜ (0 < length (now input)) × (roomForByte ≤ length (now out)) ⌝ }
-    requires { ⌜ (length (now input) ≤ allowance) × (from ≡ pick (isSet (getD (now m) 34 0)) 0x80 0xA0) ⌝ }
+    requires { ⌜ (length (now input) ≤ allowance) × (from ≡ pick (isSet (getD (now m) 36 0)) 0x80 0xA0) ⌝ }
     requires { ⌜ printsFrom from (getD (now input) 0 0) ≡ true ⌝ }
     ensures { λ r. ⌜ ((p : Printer) (v : Pending) → Current p v Waiting.Nothing (now (m .entry))
         → TurnPromise p v (now (input .entry)) (now (out .entry)) r (now (m .exit)) (now (out .exit))) ⌝ }
@@ -176,65 +181,134 @@ fn take_text(m: &mut [u32; COUNT], input: &[u8], out: &mut [u8], allowance: usiz
     }
 }
 
+// What is waited for after the k-th byte of a column.
+fn after_image_byte(mode: ImageMode, k: u8, columns: u16) -> Waiting
+    requires { ⌜ (0 < columns) × (k ≤ imageBytes mode) ⌝ }
+    ensures { λ r. ⌜ r ≡ afterImageByte mode k columns ⌝ }
+{
+    if k == image_bytes(mode) {
+        return image_wait(mode, columns - 1);
+    }
+    Waiting::ImageData(mode, k + 1, columns)
+}
+
 // In image data, the first byte alone.
 fn take_image(
-    d: Density,
+    mode: ImageMode,
+    k: u8,
     columns: u16,
     m: &mut [u32; COUNT],
     input: &[u8],
     out: &mut [u8],
     allowance: usize,
 ) -> Turned
-    requires { ⌜ 0 < columns ⌝ }
+    requires { ⌜ (0 < columns) × (k ≤ imageBytes mode) ⌝ }
     requires { ⌜ (0 < length (now input)) × (roomForByte ≤ length (now out)) ⌝ }
     requires { ⌜ length (now input) ≤ allowance ⌝ }
-    ensures { λ r. ⌜ ((p : Printer) (v : Pending) → Current p v (Waiting.ImageData d columns) (now (m .entry))
+    ensures { λ r. ⌜ ((p : Printer) (v : Pending) → Current p v (Waiting.ImageData mode k columns) (now (m .entry))
         → TurnPromise p v (now (input .entry)) (now (out .entry)) r (now (m .exit)) (now (out .exit))) ⌝ }
     ensures { λ r. ⌜ (0 < r .read) × (r .left + r .read ≡ allowance) ⌝ }
 {
-    let written = image_byte(m, d, input[0], out, 0);
-    let rest = columns - 1;
+    let written = image_byte(m, mode, k, input[0], out, 0);
     let left = allowance - 1;
     Turned {
-        waiting: image_wait(d, rest),
+        waiting: after_image_byte(mode, k, columns),
         read: 1,
         written,
         left,
     }
 }
 
-// In image data: the bytes that are placed from here, or else one.
-fn take_images(
-    d: Density,
+// In image data of one byte a column: the bytes that are placed from here, or else one.
+fn take_columns(
+    mode: ImageMode,
     columns: u16,
     m: &mut [u32; COUNT],
     input: &[u8],
     out: &mut [u8],
     allowance: usize,
 ) -> Turned
-    requires { ⌜ Kept (Waiting.ImageData d columns) (now m) ⌝ }
+    requires { ⌜ Kept (Waiting.ImageData mode 1 columns) (now m) × (imageBytes mode ≡ 1) ⌝ }
     requires { ⌜ (0 < length (now input)) × (roomForByte ≤ length (now out)) ⌝ }
     requires { ⌜ length (now input) ≤ allowance ⌝ }
-    ensures { λ r. ⌜ ((p : Printer) (v : Pending) → Current p v (Waiting.ImageData d columns) (now (m .entry))
+    ensures { λ r. ⌜ ((p : Printer) (v : Pending) → Current p v (Waiting.ImageData mode 1 columns) (now (m .entry))
         → TurnPromise p v (now (input .entry)) (now (out .entry)) r (now (m .exit)) (now (out .exit))) ⌝ }
     ensures { λ r. ⌜ (0 < r .read) × (r .left + r .read ≡ allowance) ⌝ }
 {
-    let v = image_record(&*m, d, 0);
-    let step = image_step(d);
+    let v = image_record(&*m, mode, 0, 0);
+    let step = image_step(mode);
     let some = least(columns as usize, input.len());
     let placed = place_run(&mut *m, v, 0, step, some, input, &mut *out, allowance);
     let n = placed.count;
     if n == 0 {
-        return take_image(d, columns, m, input, out, allowance);
+        return take_image(mode, 1, columns, m, input, out, allowance);
     }
     let written = Record::SIZE * n;
     let rest = columns - n as u16;
     Turned {
-        waiting: image_wait(d, rest),
+        waiting: image_wait(mode, rest),
         read: n,
         written,
         left: placed.left,
     }
+}
+
+// In image data of three bytes a column, the same, from any of them on.
+fn take_parts(
+    mode: ImageMode,
+    k: u8,
+    columns: u16,
+    m: &mut [u32; COUNT],
+    input: &[u8],
+    out: &mut [u8],
+    allowance: usize,
+) -> Turned
+    requires { ⌜ Kept (Waiting.ImageData mode k columns) (now m) × (imageBytes mode ≡ 3) ⌝ }
+    requires { ⌜ (0 < length (now input)) × (roomForByte ≤ length (now out)) ⌝ }
+    requires { ⌜ length (now input) ≤ allowance ⌝ }
+    ensures { λ r. ⌜ ((p : Printer) (v : Pending) → Current p v (Waiting.ImageData mode k columns) (now (m .entry))
+        → TurnPromise p v (now (input .entry)) (now (out .entry)) r (now (m .exit)) (now (out .exit))) ⌝ }
+    ensures { λ r. ⌜ (0 < r .read) × (r .left + r .read ≡ allowance) ⌝ }
+{
+    let v = image_record(&*m, mode, 0, 0);
+    let step = image_step(mode);
+    let placed = place_parts(&mut *m, v, step, k, columns, input, &mut *out, allowance);
+    let n = placed.count;
+    if n == 0 {
+        return take_image(mode, k, columns, m, input, out, allowance);
+    }
+    let written = Record::SIZE * n;
+    let rest = columns - placed.done;
+    Turned {
+        waiting: parts_wait(mode, placed.part, rest),
+        read: n,
+        written,
+        left: placed.left,
+    }
+}
+
+// In image data: by the bytes of a column.
+fn take_images(
+    mode: ImageMode,
+    k: u8,
+    columns: u16,
+    m: &mut [u32; COUNT],
+    input: &[u8],
+    out: &mut [u8],
+    allowance: usize,
+) -> Turned
+    requires { ⌜ Kept (Waiting.ImageData mode k columns) (now m) ⌝ }
+    requires { ⌜ (0 < length (now input)) × (roomForByte ≤ length (now out)) ⌝ }
+    requires { ⌜ length (now input) ≤ allowance ⌝ }
+    ensures { λ r. ⌜ ((p : Printer) (v : Pending) → Current p v (Waiting.ImageData mode k columns) (now (m .entry))
+        → TurnPromise p v (now (input .entry)) (now (out .entry)) r (now (m .exit)) (now (out .exit))) ⌝ }
+    ensures { λ r. ⌜ (0 < r .read) × (r .left + r .read ≡ allowance) ⌝ }
+{
+    let bytes = image_bytes(mode);
+    if bytes == 1 {
+        return take_columns(mode, columns, m, input, out, allowance);
+    }
+    take_parts(mode, k, columns, m, input, out, allowance)
 }
 
 // By what is waited for: letters and control bytes, image bytes, or one byte of an escape or a list. The allowance covers the input.
@@ -261,6 +335,6 @@ pub(crate) fn turn(
         ),
         Waiting::Arguments(w) => after_byte(argument_step(m, w, b, out, 0), allowance),
         Waiting::StopList(t, before) => after_byte(list_step(m, t, before, b, out, 0), allowance),
-        Waiting::ImageData(d, n) => take_images(d, n, m, input, out, allowance),
+        Waiting::ImageData(mode, k, n) => take_images(mode, k, n, m, input, out, allowance),
     }
 }

@@ -1,12 +1,12 @@
 // Base, advance and column width.
-use printer::commands::Density;
+use printer::commands::ImageMode;
 use printer::settings::Pitch;
 use printer::settings::Width;
 use printer::units::Units;
 ghost use mathlib.Core.Path.{_≡_};
 ghost use Prim.Native.Nat.{_≤_};
 ghost use Rattle.printer.specs.Units.{units};
-ghost use Rattle.printer.specs.Widths.{base, doubleWidth, advance, columnWidth, imageStep};
+ghost use Rattle.printer.specs.Widths.{base, doubleWidth, advance, columnWidth, imageStep, imageBytes};
 
 fn base_units(w: Width) -> u32
     ensures { λ r. ⌜ (r ≡ base (w .pitch) (w .reduced) (w .proportional)) × (r ≤ 360) ⌝ }
@@ -62,13 +62,39 @@ pub fn column_width(w: Width) -> Units
 }
 
 // The units of an image column.
-pub fn image_step(d: Density) -> Units
-    ensures { λ r. ⌜ r ≡ units (imageStep d) ⌝ }
+pub fn image_step(m: ImageMode) -> Units
+    ensures { λ r. ⌜ r ≡ units (imageStep m) ⌝ }
 {
-    match d {
-        Density::Single => Units(60),
-        Density::Double => Units(30),
-        Density::DoubleSpeed => Units(30),
-        Density::Quadruple => Units(15),
+    match m {
+        ImageMode::Single => Units(60),
+        ImageMode::Double => Units(30),
+        ImageMode::DoubleSpeed => Units(30),
+        ImageMode::Quadruple => Units(15),
+        ImageMode::Crt80 => Units(45),
+        ImageMode::Crt90 => Units(40),
+        ImageMode::Single24 => Units(60),
+        ImageMode::Double24 => Units(30),
+        ImageMode::Crt24 => Units(40),
+        ImageMode::Triple24 => Units(20),
+        ImageMode::Hex24 => Units(10),
+    }
+}
+
+// Its bytes.
+pub fn image_bytes(m: ImageMode) -> u8
+    ensures { λ r. ⌜ r ≡ imageBytes m ⌝ }
+{
+    match m {
+        ImageMode::Single => 1,
+        ImageMode::Double => 1,
+        ImageMode::DoubleSpeed => 1,
+        ImageMode::Quadruple => 1,
+        ImageMode::Crt80 => 1,
+        ImageMode::Crt90 => 1,
+        ImageMode::Single24 => 3,
+        ImageMode::Double24 => 3,
+        ImageMode::Crt24 => 3,
+        ImageMode::Triple24 => 3,
+        ImageMode::Hex24 => 3,
     }
 }

@@ -30,7 +30,7 @@ module _ (p : Printer) (b : ℕ) (w : p .waiting ≡ Waiting.Nothing) (s : Stand
   frame-here : frameAt p b ≡ Frame.Whole (Command.Silent (Silent.Escape b)) Waiting.SecondByte
   frame-here = rw w (escape-frame (p .settings .upperprints) b s)
 
-  after-escape : (l : List ℕ) (rs : List Record) → stateAfter (waitFor p Waiting.SecondByte) l ≡ waitFor p Waiting.Nothing
+  pub after-escape : (l : List ℕ) (rs : List Record) → stateAfter (waitFor p Waiting.SecondByte) l ≡ waitFor p Waiting.Nothing
       → recordsOver (waitFor p Waiting.SecondByte) l ≡ rs → OnlyWrites p (b ∷ l) rs
   unfolding stateAfter recordsOver stepOf stepRecords stepEvents performAll recordsAll
   after-escape l rs h r =

@@ -15,6 +15,7 @@ use Rattle.printer.specs.PowerOn.{powerOn}
 use Rattle.printer.specs.Calls.{isFull, numberOf, setup, setupOf, startedWith, usable, plainStart, startOf, Run, runOf, callOf, StartCall, ReadCall, bytesOf}
 use Rattle.printer.specs.Accepted.{Ours}
 use Rattle.printer.specs.Promises.{ReadingPromise}
+use Rattle.printer.specs.InForce.{Image, noImage}
 use Rattle.printer.specs.Reckoning.{origin, begun, Axis, printed}
 use Rattle.printer.specs.Shown.{written}
 use Rattle.printer.specs.Demand3.{Call, started, read, Chain, rulesAfter, occurrences, OwnCall, Own, NotFour, writtenBy, joined, Demand3}
@@ -32,16 +33,16 @@ use Rattle.printer.proofs.Claims.{ClaimOver, nothing, Keeps, bytes-then
 
 -- a start leaves a state of ours, waiting for nothing, at which the reckoning begins
 record Begins (settings : StartSettings) (s : Started) : Type 0 where
-  keeps : Keeps (s .printer) 0 origin origin
-  begins : begun settings ≡ from (s .printer) 0 origin origin
+  keeps : Keeps (s .printer) noImage origin origin
+  begins : begun settings ≡ from (s .printer) noImage origin origin
   number : numberOf (s .answer) ≤ 3
 
 start-begins : (settings : StartSettings) → Begins settings (startOf settings)
 unfolding startOf
 start-begins settings = go (usable settings) refl
   where
-    keeps : (t : Setup) → narrowestPaper ≤ t .width .0 → t .width .0 ≤ widestPaper → Keeps (powerOn t) 0 origin origin
-    keeps t h k = record { ours = power-on-ours t h k; across = refl; down = refl; step = λ d m z. cc }
+    keeps : (t : Setup) → narrowestPaper ≤ t .width .0 → t .width .0 ≤ widestPaper → Keeps (powerOn t) noImage origin origin
+    keeps t h k = record { ours = power-on-ours t h k; across = refl; down = refl; image = λ m k n z. cc }
 
     -- at either resolution
     taken : (t : Bool) → eqb (settings .resolution) 203 ≡ t → usable settings ≡ true
@@ -136,18 +137,18 @@ records-fit p (read c ∷ l) m o =
     each-append FitsBytes (recordsOver p (bytesOf c)) (recordsIn (rulesAfter p (read c)) l) (steps-fit p (bytesOf c) b o)
     (records-fit (rulesAfter p (read c)) l (m .1) (steps-ours p (bytesOf c) b o))
 
-calls-claim : (p : Printer) (n : ℕ) (k j : Axis) (l : List Call) → BytesIn l → Keeps p n k j
-    → ClaimOver (from p n k j) (recordsIn p l) (occurrences p l)
+calls-claim : (p : Printer) (g : Image) (k j : Axis) (l : List Call) → BytesIn l → Keeps p g k j
+    → ClaimOver (from p g k j) (recordsIn p l) (occurrences p l)
 unfolding recordsIn BytesIn occurrences printed written
-calls-claim p n k j [] m h = nothing
-calls-claim p n k j (started c ∷ l) m h =
+calls-claim p g k j [] m h = nothing
+calls-claim p g k j (started c ∷ l) m h =
     let b = start-begins (c .settings) in
-    let w = calls-claim (rulesAfter p (started c)) 0 origin origin l m (b .keeps) in
+    let w = calls-claim (rulesAfter p (started c)) noImage origin origin l m (b .keeps) in
     rw (b .begins) (record { same = w .same; between = w .between; reckoned = (tt, w .reckoned) })
-calls-claim p n k j (read c ∷ l) m h =
-    bytes-then p n k j (bytesOf c) (recordsIn (rulesAfter p (read c)) l) (occurrences (rulesAfter p (read c)) l)
+calls-claim p g k j (read c ∷ l) m h =
+    bytes-then p g k j (bytesOf c) (recordsIn (rulesAfter p (read c)) l) (occurrences (rulesAfter p (read c)) l)
     (bytes-take (c .back .read) (c .input) (m .0)) h
-    (λ n′ k′ j′ g. calls-claim (rulesAfter p (read c)) n′ k′ j′ l (m .1) g)
+    (λ x k′ j′ t. calls-claim (rulesAfter p (read c)) x k′ j′ l (m .1) t)
 
 pub demand-3 : (before : Printer) (c : StartCall) (l : List Call) → Chain before (started c ∷ l) → Demand3 before (started c ∷ l)
 unfolding recordsIn BytesIn occurrences printed written
@@ -156,7 +157,7 @@ demand-3 p c l h =
     let b = start-begins (c .settings) in
     let m = bytes-in p (started c ∷ l) h in
     let o = own-list p (started c ∷ l) h in
-    let w = calls-claim q 0 origin origin l m (b .keeps) in
+    let w = calls-claim q noImage origin origin l m (b .keeps) in
     record {
       own = o;
       noFour = (rw (o .0) (b .number), not-four q l m (o .1) (b .keeps .ours));

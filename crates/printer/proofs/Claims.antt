@@ -1,27 +1,27 @@
 -- Demand 3's claim, for events and bytes: the records are those that the reckoning writes, and what it prints is between the margins.
-use Prim.Native.Nat.{ℕ, _+_, _*_, _-_, _≤_}
+use Prim.Native.Nat.{ℕ, suc, _+_, _*_, _-_, _≤_}
 use mathlib.Core.Path.{_≡_, refl}
-use mathlib.Core.Bool.{Bool}
+use mathlib.Core.Bool.{Bool, true, false}
 use mathlib.Core.List.{List, [], _∷_, _++_, map, append-assoc, map-append}
 use native.Mathlib.Omega.{arith}
 use lib.Dec.{leb, eqb}
-use Rattle.printer.specs.Tools.{Each, Bytes}
-use Rattle.printer.specs.Widths.{imageStep}
+use Rattle.printer.specs.Tools.{pick, Each, Bytes}
+use Rattle.printer.specs.Widths.{imageBytes}
 use Rattle.printer.specs.Settings.{acrossOf, downOf}
-use Rattle.printer.specs.Framing.{frame, imageWait}
+use Rattle.printer.specs.Framing.{frame, openedMode, imageWait, afterImageByte}
 use Rattle.printer.specs.Performing.{Event, done, passed, inside, automatic, Writing, silent, letter, imageByte, feed, clear, recordsBy, Effect, controlAt, effectAt, recordsAt, recordsOf, recordsAll, perform, performAll}
 use Rattle.printer.specs.Deciding.{attempt, decide}
 use Rattle.printer.specs.Steps.{frameAt, eventsIn, nextIn, stepEvents, stepRecords, stepOf, stateAfter, recordsOver, eventsOver}
 use Rattle.printer.specs.Accepted.{Ours}
-use Rattle.printer.specs.InForce.{stepOfImage}
-use Rattle.printer.specs.Reckoning.{Axis, moved, exact, Change, controlChange, changeOf, changeBy, Reckoning, reckon, Printed, printedBy, printedAt, Occurrence, event, printed}
+use Rattle.printer.specs.InForce.{Image, opened, byteReceived}
+use Rattle.printer.specs.Reckoning.{Axis, moved, exact, Change, controlChange, changeOf, passedInForce, changeBy, Reckoning, reckon, Printed, printedBy, printedAt, Occurrence, event, printed}
 use Rattle.printer.specs.Shown.{Shown, shown, shownAs, shownBy, writes, written}
 use Rattle.printer.specs.Demand3.{Between, NotBelowZero, DoesNotFit, Reckoned, ReckonedAll}
-use Rattle.printer.specs.Types.{Begun, Command, Control, Density, Frame, ListPart, Place, Printer, Record, Tabs, Waiting}
+use Rattle.printer.specs.Types.{Begun, Command, Control, Density, Frame, ImageMode, ListPart, Opening, Place, Printer, Record, Settings, Stops, Tabs, Waiting}
 use Rattle.printer.proofs.Choices.{pick-elim, each-append, each-map}
 use Rattle.printer.proofs.Frames.{NoImage, clash, Framed, begins, single, opensList, opensImage, rests, afterEscape, framed-first, framed-second, framed-argument}
 use Rattle.printer.proofs.Spelling.{EventOf, of-decide}
-use Rattle.printer.proofs.Legal.{forceOf, InStep, Overflowing, Done, Legal, LegalAll, attempted}
+use Rattle.printer.proofs.Legal.{forceOf, imageAt, InStep, Overflowing, Done, Legal, LegalAll, attempted}
 use Rattle.printer.proofs.Keeping.{Writable, Bounded, keep-control, keep-done, keep}
 use Rattle.printer.proofs.KeepingSteps.{bounded, sound, step-ours}
 use Rattle.printer.proofs.NoBytes.{no-byte}
@@ -70,27 +70,27 @@ exact-at k n h = omega arith
 not-below : (k : Axis) (n : ℕ) → At k n → NotBelowZero k
 not-below k n h = omega arith
 
-module _ (p : Printer) (n : ℕ) (k j : Axis) (f : Tracks p k j) where
+module _ (p : Printer) (g : Image) (k j : Axis) (f : Tracks p k j) where
   -- what can be written is written as the reckoning says, if it says where the place down is then
   same-writing : (y : Place) (down : Axis) (w : Writing) → exact down ≡ downOf y
-      → shown (recordsBy (p .settings) (p .place) y w) ≡ shownAs (from p n k j) down w
+      → shown (recordsBy (p .settings) (p .place) y w) ≡ shownAs (from p g k j) down w
   unfolding shown
   same-writing y down silent e = refl
   same-writing y down (letter b m) e = rw (exact-at k _ (f .across), exact-at j _ (f .down))
-  same-writing y down (imageByte b m) e = rw (exact-at k _ (f .across), exact-at j _ (f .down))
+  same-writing y down (imageByte b part m) e = rw (exact-at k _ (f .across), exact-at j _ (f .down))
   same-writing y down (feed pages) e = rw e
   same-writing y down clear e = refl
 
-  between-margins : (w : Writing) → Writable (p .settings) (p .place) w → Each Between (printedBy (from p n k j) w)
+  between-margins : (w : Writing) → Writable (p .settings) (p .place) w → Each Between (printedBy (from p g k j) w)
   between-margins silent h = tt
   between-margins (letter b m) h = let a = f .across in let q = f .bounded .within in (omega arith, tt)
-  between-margins (imageByte b m) h = let a = f .across in let q = f .bounded .within in (omega arith, tt)
+  between-margins (imageByte b part m) h = let a = f .across in let q = f .bounded .within in (omega arith, tt)
   between-margins (feed pages) h = tt
   between-margins clear h = tt
 
   -- what follows the rules is claimed
   turn-claim : (t : Change) (l : Effect) → Follows t l k j → Writable (p .settings) (p .place) (l .writing)
-      → Claim (recordsAt p l) (shownBy (from p n k j) t) (printedBy (from p n k j) (t .writing)) (NotBelowZero (moved k (t .across)) × NotBelowZero (moved j (t .down)))
+      → Claim (recordsAt p l) (shownBy (from p g k j) t) (printedBy (from p g k j) (t .writing)) (NotBelowZero (moved k (t .across)) × NotBelowZero (moved j (t .down)))
   turn-claim t l h w =
       record {
         same = rw (h .writing) (same-writing (l .place) (moved j (t .down)) (l .writing) (exact-at _ _ (h .down)));
@@ -99,73 +99,82 @@ module _ (p : Printer) (n : ℕ) (k j : Axis) (f : Tracks p k j) where
       }
 
   -- what is passed over for want of room has none by the reckoning either
-  does-not-fit : (reason : ℕ) (w : Writing) → Overflowing p reason w → DoesNotFit (from p n k j) reason w
+  does-not-fit : (reason : ℕ) (w : Writing) → Overflowing p reason w → DoesNotFit (from p g k j) reason w
   does-not-fit reason silent u = tt
   does-not-fit reason (letter b m) u = let a = f .across in (omega arith, omega arith, u .2)
-  does-not-fit reason (imageByte b m) u = let a = f .across in (omega arith, u .1)
+  does-not-fit reason (imageByte b part m) u = let a = f .across in (omega arith, u .1)
   does-not-fit reason (feed pages) u = tt
   does-not-fit reason clear u = tt
 
--- the image step after an event
-abbrev stepAfter : ℕ → Printer → Event → ℕ
-stepAfter n p e = changeBy (forceOf (p .settings) (p .stops) n) e .force .step
+-- the image after an event
+abbrev imageAfter : Image → Printer → Event → Image
+imageAfter g p e = changeBy (forceOf (p .settings) (p .stops) g) e .force .image
 
--- an image byte's event is in step
-abbrev InStepEvent : Event → ℕ → Type 0
-InStepEvent (done c m) n = InStep c n
-InStepEvent (passed c reason) n = InStep c n
-InStepEvent (inside c m) n = Unit
-InStepEvent (automatic m) n = Unit
+-- an image byte's event is of this image
+abbrev InStepEvent : Event → Image → Type 0
+InStepEvent (done c m) g = InStep c g
+InStepEvent (passed c reason) g = InStep c g
+InStepEvent (inside c m) g = Unit
+InStepEvent (automatic m) g = Unit
+
+-- what is passed over leaves the settings and the stops in force
+passed-force : (s : Settings) (t : Stops) (g : Image) (w : Writing) → passedInForce (forceOf s t g) w ≡ forceOf s t (passedInForce (forceOf s t g) w .image)
+passed-force s t g silent = refl
+passed-force s t g (letter b n) = refl
+passed-force s t g (imageByte b part n) = refl
+passed-force s t g (feed pages) = refl
+passed-force s t g clear = refl
 
 -- after an event the reckoning is that of the state after it
-record ReckonedAfter (p : Printer) (n : ℕ) (k j : Axis) (e : Event) : Type 0 where
+record ReckonedAfter (p : Printer) (g : Image) (k j : Axis) (e : Event) : Type 0 where
   across : Axis
   down : Axis
-  same : reckon (from p n k j) e ≡ from (perform p e) (stepAfter n p e) across down
+  same : reckon (from p g k j) e ≡ from (perform p e) (imageAfter g p e) across down
   tracks : Tracks (perform p e) across down
 
-module _ (p : Printer) (n : ℕ) (k j : Axis) (f : Tracks p k j) where
-  control-follows : (c : Control) (m : ℕ) → Legal p (inside c m) → Follows (controlChange (forceOf (p .settings) (p .stops) n) c m) (controlAt p c m) k j
-  control-follows c m h = follow-control (p .settings) (p .stops) (p .place) n c m k j h (f .across) (f .down)
+module _ (p : Printer) (g : Image) (k j : Axis) (f : Tracks p k j) where
+  control-follows : (c : Control) (m : ℕ) → Legal p (inside c m) → Follows (controlChange (forceOf (p .settings) (p .stops) g) c m) (controlAt p c m) k j
+  control-follows c m h = follow-control (p .settings) (p .stops) (p .place) g c m k j h (f .across) (f .down)
 
-  command-follows : (c : Command) (m : ℕ) → Done p c m → InStep c n → Follows (changeOf (forceOf (p .settings) (p .stops) n) c m) (effectAt p c m) k j
-  command-follows c m h i = follow p n c m k j h i (f .bounded) (f .across) (f .down)
+  command-follows : (c : Command) (m : ℕ) → Done p c m → InStep c g → Follows (changeOf (forceOf (p .settings) (p .stops) g) c m) (effectAt p c m) k j
+  command-follows c m h i = follow p g c m k j h i (f .bounded) (f .across) (f .down)
 
-  reckoned-control : (c : Control) (m : ℕ) → Legal p (inside c m) → ReckonedAfter p n k j (inside c m)
+  reckoned-control : (c : Control) (m : ℕ) → Legal p (inside c m) → ReckonedAfter p g k j (inside c m)
   reckoned-control c m h =
       let v = control-follows c m h in
       record {
-        across = moved k (controlChange (forceOf (p .settings) (p .stops) n) c m .across);
-        down = moved j (controlChange (forceOf (p .settings) (p .stops) n) c m .down);
+        across = moved k (controlChange (forceOf (p .settings) (p .stops) g) c m .across);
+        down = moved j (controlChange (forceOf (p .settings) (p .stops) g) c m .down);
         same = cc (v .force);
         tracks = record { bounded = keep p (inside c m) h (f .bounded); across = v .across; down = v .down };
       }
 
-  reckoned : (e : Event) → Legal p e → InStepEvent e n → ReckonedAfter p n k j e
+  reckoned : (e : Event) → Legal p e → InStepEvent e g → ReckonedAfter p g k j e
   reckoned (done c m) h i =
       let v = command-follows c m h i in
       record {
-        across = moved k (changeOf (forceOf (p .settings) (p .stops) n) c m .across);
-        down = moved j (changeOf (forceOf (p .settings) (p .stops) n) c m .down);
+        across = moved k (changeOf (forceOf (p .settings) (p .stops) g) c m .across);
+        down = moved j (changeOf (forceOf (p .settings) (p .stops) g) c m .down);
         same = cc (v .force);
         tracks = record { bounded = keep p (done c m) h (f .bounded); across = v .across; down = v .down };
       }
-  reckoned (passed c reason) h i = record { across = k; down = j; same = refl; tracks = f }
+  reckoned (passed c reason) h i =
+      record { across = k; down = j; same = cc (passed-force (p .settings) (p .stops) g (changeOf (forceOf (p .settings) (p .stops) g) c 0 .writing)); tracks = f }
   reckoned (inside c m) h i = reckoned-control c m h
   reckoned (automatic m) h i =
       let r = reckoned-control Control.LineFeed m (h .0) in
       record { across = r .across; down = r .down; same = r .same; tracks = r .tracks }
 
   control-claim : (c : Control) (m : ℕ) → Legal p (inside c m)
-      → Claim (recordsOf p (inside c m)) (writes (from p n k j) (inside c m)) (printedAt (from p n k j) (inside c m)) (NotBelowZero (moved k (controlChange (forceOf (p .settings) (p .stops) n) c m .across)) × NotBelowZero (moved j (controlChange (forceOf (p .settings) (p .stops) n) c m .down)))
+      → Claim (recordsOf p (inside c m)) (writes (from p g k j) (inside c m)) (printedAt (from p g k j) (inside c m)) (NotBelowZero (moved k (controlChange (forceOf (p .settings) (p .stops) g) c m .across)) × NotBelowZero (moved j (controlChange (forceOf (p .settings) (p .stops) g) c m .down)))
   control-claim c m h =
-      turn-claim p n k j f _ (controlAt p c m) (control-follows c m h) (keep-control (p .settings) (p .stops) (p .place) c m h (f .bounded .within) .1)
+      turn-claim p g k j f _ (controlAt p c m) (control-follows c m h) (keep-control (p .settings) (p .stops) (p .place) c m h (f .bounded .within) .1)
 
-  event-claim : (e : Event) → Legal p e → InStepEvent e n
-      → Claim (recordsOf p e) (writes (from p n k j) e) (printedAt (from p n k j) e) (Reckoned (from p n k j) (event e))
+  event-claim : (e : Event) → Legal p e → InStepEvent e g
+      → Claim (recordsOf p e) (writes (from p g k j) e) (printedAt (from p g k j) e) (Reckoned (from p g k j) (event e))
   unfolding shown
   event-claim (done c m) h i =
-      let v = turn-claim p n k j f _ (effectAt p c m) (command-follows c m h i) (keep-done p c m h (f .bounded) .1) in
+      let v = turn-claim p g k j f _ (effectAt p c m) (command-follows c m h i) (keep-done p c m h (f .bounded) .1) in
       record { same = v .same; between = v .between; reckoned = record { across = v .reckoned .0; down = v .reckoned .1; room = tt; classified = h .classified } }
   event-claim (passed c reason) h i =
       record {
@@ -175,7 +184,7 @@ module _ (p : Printer) (n : ℕ) (k j : Axis) (f : Tracks p k j) where
             record {
               across = not-below _ _ (f .across);
               down = not-below _ _ (f .down);
-              room = does-not-fit p n k j f reason (changeOf (forceOf (p .settings) (p .stops) n) c 0 .writing) (h .overflows n i);
+              room = does-not-fit p g k j f reason (changeOf (forceOf (p .settings) (p .stops) g) c 0 .writing) (h .overflows g i);
               classified = h .classified;
             };
       }
@@ -189,159 +198,185 @@ module _ (p : Printer) (n : ℕ) (k j : Axis) (f : Tracks p k j) where
 
 -- Events, then what follows them
 
--- what is claimed of all that comes after a state, with this image step
-abbrev Rest : Printer → ℕ → List Record → List Occurrence → Type 0
-Rest p n rs os = (k j : Axis) → Tracks p k j → ClaimOver (from p n k j) rs os
+-- what is claimed of all that comes after a state, with this image
+abbrev Rest : Printer → Image → List Record → List Occurrence → Type 0
+Rest p g rs os = (k j : Axis) → Tracks p k j → ClaimOver (from p g k j) rs os
 
-event-then : (p : Printer) (n : ℕ) (k j : Axis) (e : Event) (rs : List Record) (os : List Occurrence)
-    → Legal p e → InStepEvent e n → Tracks p k j → Rest (perform p e) (stepAfter n p e) rs os
-    → ClaimOver (from p n k j) (recordsOf p e ++ rs) (event e ∷ os)
+event-then : (p : Printer) (g : Image) (k j : Axis) (e : Event) (rs : List Record) (os : List Occurrence)
+    → Legal p e → InStepEvent e g → Tracks p k j → Rest (perform p e) (imageAfter g p e) rs os
+    → ClaimOver (from p g k j) (recordsOf p e ++ rs) (event e ∷ os)
 unfolding printed written
-event-then p n k j e rs os h i f rest =
-    let r = reckoned p n k j f e h i in
-    join (recordsOf p e) rs (writes (from p n k j) e) (written (reckon (from p n k j) e) os) (printedAt (from p n k j) e) (printed (reckon (from p n k j) e) os)
-    (Reckoned (from p n k j) (event e)) (ReckonedAll (reckon (from p n k j) e) os) (event-claim p n k j f e h i)
+event-then p g k j e rs os h i f rest =
+    let r = reckoned p g k j f e h i in
+    join (recordsOf p e) rs (writes (from p g k j) e) (written (reckon (from p g k j) e) os) (printedAt (from p g k j) e) (printed (reckon (from p g k j) e) os)
+    (Reckoned (from p g k j) (event e)) (ReckonedAll (reckon (from p g k j) e) os) (event-claim p g k j f e h i)
     (rw (r .same) (rest (r .across) (r .down) (r .tracks)))
 
--- events in step with every image step
+-- events of no image
 abbrev AlwaysInStep : Event → Type 0
-AlwaysInStep e = (n : ℕ) → InStepEvent e n
+AlwaysInStep e = (g : Image) → InStepEvent e g
 
-events-then : (p : Printer) (n : ℕ) (k j : Axis) (l : List Event) (rs : List Record) (os : List Occurrence)
-    → LegalAll p l → Each AlwaysInStep l → Tracks p k j → ((m : ℕ) → Rest (performAll p l) m rs os)
-    → ClaimOver (from p n k j) (recordsAll p l ++ rs) (map event l ++ os)
+events-then : (p : Printer) (g : Image) (k j : Axis) (l : List Event) (rs : List Record) (os : List Occurrence)
+    → LegalAll p l → Each AlwaysInStep l → Tracks p k j → ((x : Image) → Rest (performAll p l) x rs os)
+    → ClaimOver (from p g k j) (recordsAll p l ++ rs) (map event l ++ os)
 unfolding performAll recordsAll printed
-events-then p n k j [] rs os h i f rest = rest n k j f
-events-then p n k j (e ∷ l) rs os h i f rest =
+events-then p g k j [] rs os h i f rest = rest g k j f
+events-then p g k j (e ∷ l) rs os h i f rest =
     rw append-assoc
-    (event-then p n k j e (recordsAll (perform p e) l ++ rs) (map event l ++ os) (h .0) (i .0 n) f
-    (λ k′ j′ g. events-then (perform p e) (stepAfter n p e) k′ j′ l rs os (h .1) (i .1) g rest))
+    (event-then p g k j e (recordsAll (perform p e) l ++ rs) (map event l ++ os) (h .0) (i .0 g) f
+    (λ k′ j′ t. events-then (perform p e) (imageAfter g p e) k′ j′ l rs os (h .1) (i .1) t rest))
 
--- Image steps over a byte
+-- Images over a byte
 
--- image data that is waited for has the step in force
-abbrev pub StepAgrees : Waiting → ℕ → Type 0
-StepAgrees w n = (d : Density) (m : ℕ) → w ≡ Waiting.ImageData d m → n ≡ imageStep d
+-- image data that is waited for is of this image
+abbrev pub ImageAgrees : Waiting → Image → Type 0
+ImageAgrees w g = (m : ImageMode) (k n : ℕ) → w ≡ Waiting.ImageData m k n → g ≡ imageAt m k
 
 -- a byte waits, or is a command other than an image's, or opens an image, or is a byte of one
-data Stepping (n : ℕ) : Frame → Type 0 where
-  waits : {w : Waiting} → ((m : ℕ) → StepAgrees w m) → Stepping n (Frame.Waits w)
-  other : {c : Command} {w : Waiting} → ((m : ℕ) → InStep c m) → ((m : ℕ) → StepAgrees w m) → Stepping n (Frame.Whole c w)
-  opens : {d : Density} {a b : ℕ} {w : Waiting} → StepAgrees w (imageStep d) → Stepping n (Frame.Whole (Command.OpenImage d a b) w)
-  image : {d : Density} {b : ℕ} {w : Waiting} → n ≡ imageStep d → StepAgrees w n → Stepping n (Frame.Whole (Command.ImageByte d b) w)
+data Stepping (g : Image) : Frame → Type 0 where
+  waits : {w : Waiting} → ((x : Image) → ImageAgrees w x) → Stepping g (Frame.Waits w)
+  other : {c : Command} {w : Waiting} → ((x : Image) → InStep c x) → ((x : Image) → ImageAgrees w x) → Stepping g (Frame.Whole c w)
+  opens : {o : Opening} {a b : ℕ} {w : Waiting} → ImageAgrees w (imageAt (openedMode o) 1) → Stepping g (Frame.Whole (Command.OpenImage o a b) w)
+  image : {m : ImageMode} {k b : ℕ} {w : Waiting} → g ≡ imageAt m k → ImageAgrees w (byteReceived g)
+      → Stepping g (Frame.Whole (Command.ImageByte m k b) w)
 
-image-wait : (d : Density) (m n : ℕ) → n ≡ imageStep d → StepAgrees (imageWait d m) n
-image-wait d m n e = pick-elim (λ (w : Waiting). StepAgrees w n) (eqb m 0) (λ _ u v z. cc) (λ _ u v z. cc)
+image-wait : (m : ImageMode) (n : ℕ) → ImageAgrees (imageWait m n) (imageAt m 1)
+image-wait m n = pick-elim (λ (w : Waiting). ImageAgrees w (imageAt m 1)) (eqb n 0) (λ _ u i v z. cc) (λ _ u i v z. cc)
+
+after-byte : (m : ImageMode) (k n : ℕ) → ImageAgrees (afterImageByte m k n) (byteReceived (imageAt m k))
+after-byte m k n = go (eqb k (imageBytes m))
+  where
+    go : (t : Bool) → ImageAgrees (pick t (imageWait m (n - 1)) (Waiting.ImageData m (suc k) n)) (imageAt m (pick t 1 (suc k)))
+    go true = image-wait m (n - 1)
+    go false = λ u i v z. cc
 
 -- nothing is said where no image data is waited for
 
-at-rest : (n : ℕ) → StepAgrees Waiting.Nothing n
-at-rest n d m z = cc
+at-rest : (g : Image) → ImageAgrees Waiting.Nothing g
+at-rest g m k n z = cc
 
-at-second : (n : ℕ) → StepAgrees Waiting.SecondByte n
-at-second n d m z = cc
+at-second : (g : Image) → ImageAgrees Waiting.SecondByte g
+at-second g m k n z = cc
 
-at-arguments : (w : Begun) (n : ℕ) → StepAgrees (Waiting.Arguments w) n
-at-arguments w n d m z = cc
+at-arguments : (w : Begun) (g : Image) → ImageAgrees (Waiting.Arguments w) g
+at-arguments w g m k n z = cc
 
-at-list : (t : Tabs) (b n : ℕ) → StepAgrees (Waiting.StopList t b) n
-at-list t b n d m z = cc
+at-list : (t : Tabs) (b : ℕ) (g : Image) → ImageAgrees (Waiting.StopList t b) g
+at-list t b g m k n z = cc
 
-apart : (c : Command) → NoImage c → (m : ℕ) → InStep c m
-apart c i m d b z = absurd (clash (i d b z))
+apart : (c : Command) → NoImage c → (g : Image) → InStep c g
+apart c i g m k b z = absurd (clash (i m k b z))
 
-list-apart : (t : Tabs) (part : ListPart) (m : ℕ) → InStep (Command.List t part) m
-list-apart t part m d b z = cc
+list-apart : (t : Tabs) (part : ListPart) (g : Image) → InStep (Command.List t part) g
+list-apart t part g m k b z = cc
 
-stepping-framed : (n : ℕ) (upper : Bool) (l : List ℕ) (f : Frame) → Framed upper l f → Stepping n f
-stepping-framed n upper l (Frame.Waits (Waiting.Arguments w)) (begins e) = waits (at-arguments w)
-stepping-framed n upper l (Frame.Whole c w) (single e k x i rests) = other (apart c i) at-rest
-stepping-framed n upper l (Frame.Whole c w) (single e k x i afterEscape) = other (apart c i) at-second
-stepping-framed n upper l (Frame.Whole (Command.List t ListPart.Open) w) (opensList e) = other (list-apart t ListPart.Open) (at-list t 0)
-stepping-framed n upper l (Frame.Whole (Command.OpenImage d a b) w) (opensImage e) = opens (image-wait d (a + 256 * b) (imageStep d) refl)
+stepping-framed : (g : Image) (upper : Bool) (l : List ℕ) (f : Frame) → Framed upper l f → Stepping g f
+stepping-framed g upper l (Frame.Waits (Waiting.Arguments w)) (begins e) = waits (at-arguments w)
+stepping-framed g upper l (Frame.Whole c w) (single e k x i rests) = other (apart c i) at-rest
+stepping-framed g upper l (Frame.Whole c w) (single e k x i afterEscape) = other (apart c i) at-second
+stepping-framed g upper l (Frame.Whole (Command.List t ListPart.Open) w) (opensList e) = other (list-apart t ListPart.Open) (at-list t 0)
+stepping-framed g upper l (Frame.Whole (Command.OpenImage o a b) w) (opensImage e) = opens (image-wait (openedMode o) (a + 256 * b))
 
-stepping : (n : ℕ) (upper : Bool) (w : Waiting) (b : ℕ) → StepAgrees w n → Stepping n (frame upper w b)
+stepping : (g : Image) (upper : Bool) (w : Waiting) (b : ℕ) → ImageAgrees w g → Stepping g (frame upper w b)
 unfolding frame
-stepping n upper Waiting.Nothing b h = stepping-framed n upper _ _ (framed-first upper b)
-stepping n upper Waiting.SecondByte b h = stepping-framed n upper _ _ (framed-second upper b)
-stepping n upper (Waiting.Arguments w) b h = stepping-framed n upper _ _ (framed-argument upper w b)
-stepping n upper (Waiting.StopList t before) b h =
-    pick-elim (Stepping n) (leb b before) (λ _. other (list-apart t _) at-rest) (λ _. other (list-apart t _) (at-list t b))
-stepping n upper (Waiting.ImageData d m) b h = let e = h d m refl in image e (image-wait d (m - 1) n e)
+stepping g upper Waiting.Nothing b h = stepping-framed g upper _ _ (framed-first upper b)
+stepping g upper Waiting.SecondByte b h = stepping-framed g upper _ _ (framed-second upper b)
+stepping g upper (Waiting.Arguments w) b h = stepping-framed g upper _ _ (framed-argument upper w b)
+stepping g upper (Waiting.StopList t before) b h =
+    pick-elim (Stepping g) (leb b before) (λ _. other (list-apart t _) at-rest) (λ _. other (list-apart t _) (at-list t b))
+stepping g upper (Waiting.ImageData m k n) b h = let e = h m k n refl in image {w = afterImageByte m k n} e (rw e (after-byte m k n))
 
 -- A byte, then what follows it
 
-own-in-step : (c : Command) (e : Event) → ((m : ℕ) → InStep c m) → EventOf c e → AlwaysInStep e
+own-in-step : (c : Command) (e : Event) → ((g : Image) → InStep c g) → EventOf c e → AlwaysInStep e
 own-in-step c (done x n) h o = rw o h
 own-in-step c (passed x reason) h o = rw o h
-own-in-step c (inside x n) h o = λ m. tt
-own-in-step c (automatic n) h o = λ m. tt
+own-in-step c (inside x n) h o = λ g. tt
+own-in-step c (automatic n) h o = λ g. tt
 
-own-step : (d : Density) → stepOfImage d ≡ imageStep d
-own-step Density.Single = refl
-own-step Density.Double = refl
-own-step Density.DoubleSpeed = refl
-own-step Density.Quadruple = refl
+-- the reckoning's image is the rules'
+own-density : (d : Density) → opened (Opening.Named d) ≡ imageAt (openedMode (Opening.Named d)) 1
+own-density Density.Single = refl
+own-density Density.Double = refl
+own-density Density.DoubleSpeed = refl
+own-density Density.Quadruple = refl
 
--- what is claimed of all that comes after a state, if image data that it waits for has the step in force
+own-mode : (m : ImageMode) → opened (Opening.Selected m) ≡ imageAt m 1
+own-mode ImageMode.Single = refl
+own-mode ImageMode.Double = refl
+own-mode ImageMode.DoubleSpeed = refl
+own-mode ImageMode.Quadruple = refl
+own-mode ImageMode.Crt80 = refl
+own-mode ImageMode.Crt90 = refl
+own-mode ImageMode.Single24 = refl
+own-mode ImageMode.Double24 = refl
+own-mode ImageMode.Crt24 = refl
+own-mode ImageMode.Triple24 = refl
+own-mode ImageMode.Hex24 = refl
+
+own-opened : (o : Opening) → opened o ≡ imageAt (openedMode o) 1
+own-opened (Opening.Named d) = own-density d
+own-opened (Opening.Selected m) = own-mode m
+
+-- what is claimed of all that comes after a state, if image data that it waits for is of the image in force
 abbrev RestOf : Printer → Waiting → List Record → List Occurrence → Type 0
-RestOf p w rs os = (n : ℕ) → StepAgrees w n → Rest p n rs os
+RestOf p w rs os = (g : Image) → ImageAgrees w g → Rest p g rs os
 
-own-image : (d : Density) (b n : ℕ) → n ≡ imageStep d → InStep (Command.ImageByte d b) n
-own-image d b n i e m z = cc
+own-image : (m : ImageMode) (k b : ℕ) (g : Image) → g ≡ imageAt m k → InStep (Command.ImageByte m k b) g
+own-image m k b g i u v n z = cc
 
--- an image byte, placed or passed over: the step stays
-image-then : (p : Printer) (n : ℕ) (k j : Axis) (d : Density) (b : ℕ) (w : Waiting) (rs : List Record) (os : List Occurrence)
-    → n ≡ imageStep d → StepAgrees w n → Tracks p k j → Legal p (attempt p (Command.ImageByte d b) 4)
-    → RestOf (performAll p (attempt p (Command.ImageByte d b) 4 ∷ [])) w rs os
-    → ClaimOver (from p n k j) (recordsAll p (attempt p (Command.ImageByte d b) 4 ∷ []) ++ rs) (event (attempt p (Command.ImageByte d b) 4) ∷ os)
+-- an image byte, placed or passed over: it was received
+image-then : (p : Printer) (g : Image) (k j : Axis) (m : ImageMode) (i b : ℕ) (w : Waiting) (rs : List Record) (os : List Occurrence)
+    → g ≡ imageAt m i → ImageAgrees w (byteReceived g) → Tracks p k j → Legal p (attempt p (Command.ImageByte m i b) 4)
+    → RestOf (performAll p (attempt p (Command.ImageByte m i b) 4 ∷ [])) w rs os
+    → ClaimOver (from p g k j) (recordsAll p (attempt p (Command.ImageByte m i b) 4 ∷ []) ++ rs) (event (attempt p (Command.ImageByte m i b) 4) ∷ os)
 unfolding performAll recordsAll
-image-then p n k j d b w rs os i s g =
+image-then p g k j m i b w rs os e s t =
     attempted
-    (λ (e : Event). Legal p e → RestOf (perform p e) w rs os → ClaimOver (from p n k j) ((recordsOf p e ++ []) ++ rs) (event e ∷ os))
-    p (Command.ImageByte d b) 4
-    (λ _ h rest. event-then p n k j (done (Command.ImageByte d b) 0) rs os h (own-image d b n i) g (rest n s))
-    (λ _ h rest. event-then p n k j (passed (Command.ImageByte d b) 4) rs os h (own-image d b n i) g (rest n s))
+    (λ (v : Event). Legal p v → RestOf (perform p v) w rs os → ClaimOver (from p g k j) ((recordsOf p v ++ []) ++ rs) (event v ∷ os))
+    p (Command.ImageByte m i b) 4
+    (λ _ h rest. event-then p g k j (done (Command.ImageByte m i b) 0) rs os h (own-image m i b g e) t (rest (byteReceived g) s))
+    (λ _ h rest. event-then p g k j (passed (Command.ImageByte m i b) 4) rs os h (own-image m i b g e) t (rest (byteReceived g) s))
 
-frame-then : (p : Printer) (n : ℕ) (k j : Axis) (f : Frame) (rs : List Record) (os : List Occurrence)
-    → LegalAll p (eventsIn p f) → Stepping n f → Tracks p k j → RestOf (performAll p (eventsIn p f)) (nextIn f) rs os
-    → ClaimOver (from p n k j) (recordsAll p (eventsIn p f) ++ rs) (map event (eventsIn p f) ++ os)
+frame-then : (p : Printer) (g : Image) (k j : Axis) (f : Frame) (rs : List Record) (os : List Occurrence)
+    → LegalAll p (eventsIn p f) → Stepping g f → Tracks p k j → RestOf (performAll p (eventsIn p f)) (nextIn f) rs os
+    → ClaimOver (from p g k j) (recordsAll p (eventsIn p f) ++ rs) (map event (eventsIn p f) ++ os)
 unfolding performAll recordsAll
-frame-then p n k j (Frame.Waits w) rs os h (waits s) g rest = rest n (s n) k j g
-frame-then p n k j (Frame.Whole c w) rs os h (other i s) g rest =
-    events-then p n k j (decide p c) rs os h (each-map (λ e. own-in-step c e i) (decide p c) (of-decide p c .own)) g (λ m. rest m (s m))
-frame-then p n k j (Frame.Whole (Command.OpenImage d a b) w) rs os h (opens s) g rest =
-    event-then p n k j (done (Command.OpenImage d a b) 0) rs os (h .0) (λ d b z. cc) g (rest (stepOfImage d) (rw (own-step d) s))
-frame-then p n k j (Frame.Whole (Command.ImageByte d b) w) rs os h (image i s) g rest =
-    image-then p n k j d b w rs os i s g (h .0) rest
+frame-then p g k j (Frame.Waits w) rs os h (waits s) t rest = rest g (s g) k j t
+frame-then p g k j (Frame.Whole c w) rs os h (other i s) t rest =
+    events-then p g k j (decide p c) rs os h (each-map (λ e. own-in-step c e i) (decide p c) (of-decide p c .own)) t (λ x. rest x (s x))
+frame-then p g k j (Frame.Whole (Command.OpenImage o a b) w) rs os h (opens s) t rest =
+    event-then p g k j (done (Command.OpenImage o a b) 0) rs os (h .0) (λ m i n z. cc) t (rest (opened o) (rw (own-opened o) s))
+frame-then p g k j (Frame.Whole (Command.ImageByte m i b) w) rs os h (image e s) t rest =
+    image-then p g k j m i b w rs os e s t (h .0) rest
 
 -- Bytes, then what follows them
 
--- a state of ours that the reckoning follows, with the image step in force
-pub record Keeps (p : Printer) (n : ℕ) (k j : Axis) : Type 0 where
+-- a state of ours that the reckoning follows, with the image in force
+pub record Keeps (p : Printer) (g : Image) (k j : Axis) : Type 0 where
   pub ours : Ours p
   pub across : At k (acrossOf (p .place))
   pub down : At j (downOf (p .place))
-  pub step : StepAgrees (p .waiting) n
+  pub image : ImageAgrees (p .waiting) g
 
 abbrev pub After : Printer → List Record → List Occurrence → Type 0
-After p rs os = (n : ℕ) (k j : Axis) → Keeps p n k j → ClaimOver (from p n k j) rs os
+After p rs os = (g : Image) (k j : Axis) → Keeps p g k j → ClaimOver (from p g k j) rs os
 
-byte-then : (p : Printer) (n : ℕ) (k j : Axis) (b : ℕ) (rs : List Record) (os : List Occurrence) → b ≤ 255 → Keeps p n k j
-    → After (stepOf p b) rs os → ClaimOver (from p n k j) (stepRecords p b ++ rs) (map event (stepEvents p b) ++ os)
+byte-then : (p : Printer) (g : Image) (k j : Axis) (b : ℕ) (rs : List Record) (os : List Occurrence) → b ≤ 255 → Keeps p g k j
+    → After (stepOf p b) rs os → ClaimOver (from p g k j) (stepRecords p b ++ rs) (map event (stepEvents p b) ++ os)
 unfolding stepRecords stepEvents stepOf
-byte-then p n k j b rs os m h rest =
+byte-then p g k j b rs os m h rest =
     let o = h .ours in
-    frame-then p n k j (frameAt p b) rs os (sound p b m (o .typed) (o .accepted) .legal)
-    (stepping n (p .settings .upperprints) (p .waiting) b (h .step))
+    frame-then p g k j (frameAt p b) rs os (sound p b m (o .typed) (o .accepted) .legal)
+    (stepping g (p .settings .upperprints) (p .waiting) b (h .image))
     (record { bounded = bounded p (o .typed) (o .accepted); across = h .across; down = h .down })
-    (λ n′ s k′ j′ g. rest n′ k′ j′ (record { ours = step-ours p b m o; across = g .across; down = g .down; step = s }))
+    (λ x s k′ j′ t. rest x k′ j′ (record { ours = step-ours p b m o; across = t .across; down = t .down; image = s }))
 
-pub bytes-then : (p : Printer) (n : ℕ) (k j : Axis) (l : List ℕ) (rs : List Record) (os : List Occurrence) → Bytes l → Keeps p n k j
-    → After (stateAfter p l) rs os → ClaimOver (from p n k j) (recordsOver p l ++ rs) (map event (eventsOver p l) ++ os)
+pub bytes-then : (p : Printer) (g : Image) (k j : Axis) (l : List ℕ) (rs : List Record) (os : List Occurrence) → Bytes l → Keeps p g k j
+    → After (stateAfter p l) rs os → ClaimOver (from p g k j) (recordsOver p l ++ rs) (map event (eventsOver p l) ++ os)
 unfolding recordsOver eventsOver stateAfter
-bytes-then p n k j [] rs os m h rest = rest n k j h
-bytes-then p n k j (b ∷ l) rs os m h rest =
+bytes-then p g k j [] rs os m h rest = rest g k j h
+bytes-then p g k j (b ∷ l) rs os m h rest =
     rw (append-assoc, map-append, append-assoc)
-    (byte-then p n k j b (recordsOver (stepOf p b) l ++ rs) (map event (eventsOver (stepOf p b) l) ++ os) (m .0) h
-    (λ n′ k′ j′ g. bytes-then (stepOf p b) n′ k′ j′ l rs os (m .1) g rest))
+    (byte-then p g k j b (recordsOver (stepOf p b) l ++ rs) (map event (eventsOver (stepOf p b) l) ++ os) (m .0) h
+    (λ x k′ j′ t. bytes-then (stepOf p b) x k′ j′ l rs os (m .1) t rest))

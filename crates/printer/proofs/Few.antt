@@ -13,7 +13,7 @@ use Rattle.printer.proofs.Legal.{vt, decided}
 one-written : (s : Settings) (x y : Place) (w : Writing) → length (recordsBy s x y w) ≤ 1
 one-written s x y silent = omega arith
 one-written s x y (letter b n) = omega arith
-one-written s x y (imageByte b n) = omega arith
+one-written s x y (imageByte b part n) = omega arith
 one-written s x y (feed pages) = omega arith
 one-written s x y clear = omega arith
 

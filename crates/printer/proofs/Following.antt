@@ -9,25 +9,25 @@ use native.Mathlib.Nat.{div-add-mod'}
 use lib.Dec.{leb, ltb, eqb}
 use borrow.Author.Tests.{leb-true, leb-false, ltb-true, ltb-false, le-leb, lt-leb, eq-eqb, ne-eqb}
 use Rattle.printer.specs.Tools.{pick, bit, within, _upTo_, Holds}
-use Rattle.printer.specs.Widths.{imageStep}
+use Rattle.printer.specs.Widths.{imageBytes}
 use Rattle.printer.specs.Settings.{leftOf, rightOf, pageOf, skipOf, edgeOf, relativeStep, acrossOf, downOf}
 use Rattle.printer.specs.Escapes.{switches, switchedOn, modeRow, parameterRow, lookSettings}
-use Rattle.printer.specs.Performing.{stopOf, relativeMove, listStops, Effect, effectOfControl, effectAt}
+use Rattle.printer.specs.Performing.{stopOf, relativeMove, columnPart, listStops, Effect, effectOfControl, effectAt}
 use Rattle.printer.specs.Deciding.{mostStops, controlNeeds, relativeNeeds, listNeeds}
 use Rattle.printer.specs.Accepted.{StopsTyped}
-use Rattle.printer.specs.InForce.{InForce, odd, hasBit, modeInForce, parameterInForce, ownStop, listInForce}
+use Rattle.printer.specs.InForce.{Image, InForce, odd, hasBit, modeInForce, parameterInForce, ownStop, listInForce}
 use Rattle.printer.specs.Reckoning.{moves, Axis, moved, relativeMotion, Change, controlChange, changeOf, Reckoning}
-use Rattle.printer.specs.Types.{Command, Control, ListPart, Look, Mode, Move, Page, Parameter, Place, Printer, Settings, Side, Stops, Tabs}
+use Rattle.printer.specs.Types.{Command, Control, ImageMode, ListPart, Look, Mode, Move, Page, Parameter, Place, Printer, Settings, Side, Stops, Tabs}
 use Rattle.printer.proofs.Choices.{either-elim, within-fact}
 use Rattle.printer.proofs.StopLists.{one-more}
 use Rattle.printer.proofs.Legal.{forceOf, InStep, Done}
 use Rattle.printer.proofs.Keeping.{WithinBounds, Bounded}
 
--- the reckoning at a state, with an image step and two places of its own
-abbrev pub from : Printer → ℕ → Axis → Axis → Reckoning
-from p n k j =
+-- the reckoning at a state, with an image and two places of its own
+abbrev pub from : Printer → Image → Axis → Axis → Reckoning
+from p g k j =
     record {
-      force = forceOf (p .settings) (p .stops) n;
+      force = forceOf (p .settings) (p .stops) g;
       across = k;
       down = j;
     }
@@ -61,11 +61,11 @@ own-bit k n f g = go (leb k (n % (2 * k))) refl
 
 -- what is in force is what settings and stops say
 abbrev pub Agrees : InForce → Settings → Stops → Type 0
-Agrees f s t = f ≡ forceOf s t (f .step)
+Agrees f s t = f ≡ forceOf s t (f .image)
 
-module _ (s : Settings) (t : Stops) (n : ℕ) where
+module _ (s : Settings) (t : Stops) (g : Image) where
   abbrev pub here : InForce
-  here = forceOf s t n
+  here = forceOf s t g
 
   agree-mode : (c : Mode) → Agrees (modeInForce here c) (modeRow c .sets s 0) t
   agree-mode Mode.EighthInchLine = refl
@@ -122,9 +122,9 @@ follows : {f : Change} {l : Effect} {k j : Axis} → Agrees (f .force) (l .setti
     → At (moved j (f .down)) (downOf (l .place)) → f .writing ≡ l .writing → Follows f l k j
 follows e a d w = record { force = e; across = a; down = d; writing = w }
 
-module _ (s : Settings) (t : Stops) (x : Place) (n : ℕ) where
+module _ (s : Settings) (t : Stops) (x : Place) (g : Image) where
   pub follow-control : (c : Control) (m : ℕ) (k j : Axis) → Holds (controlNeeds s t x c m) → At k (acrossOf x) → At j (downOf x)
-      → Follows (controlChange (forceOf s t n) c m) (effectOfControl s t x c m) k j
+      → Follows (controlChange (forceOf s t g) c m) (effectOfControl s t x c m) k j
   follow-control Control.CarriageReturn m k j h a d = follows refl refl d refl
   follow-control Control.LineFeed zero k j h a d = follows refl refl (omega arith) refl
   follow-control Control.LineFeed (suc m) k j h a d = let e : m ≡ 0 = omega arith in follows refl refl refl (rw e)
@@ -155,13 +155,13 @@ module _ (k : Axis) (x n m step : ℕ) (e : At k x) where
       → At (record { set = k .set; forth = k .forth + n * step; back = k .back + 0x10000 * step }) (x - m * step)
   forth-back h l = omega (arith, ap (λ (v : ℕ). v * step) h)
 
-follow-relative : (s : Settings) (t : Stops) (x : Place) (n a b : ℕ) (k : Axis) → a ≤ 255 → b ≤ 255 → Holds (relativeNeeds s x (a + 256 * b))
-    → At k (acrossOf x) → At (moved k (relativeMotion (forceOf s t n) a b)) (relativeMove (acrossOf x) (a + 256 * b) (relativeStep s))
-follow-relative s t x n a b k ha hb h e = go (ltb (a + 256 * b) 0x8000) refl h
+follow-relative : (s : Settings) (t : Stops) (x : Place) (g : Image) (a b : ℕ) (k : Axis) → a ≤ 255 → b ≤ 255 → Holds (relativeNeeds s x (a + 256 * b))
+    → At k (acrossOf x) → At (moved k (relativeMotion (forceOf s t g) a b)) (relativeMove (acrossOf x) (a + 256 * b) (relativeStep s))
+follow-relative s t x g a b k ha hb h e = go (ltb (a + 256 * b) 0x8000) refl h
   where
     go : (u : Bool) → ltb (a + 256 * b) 0x8000 ≡ u
         → Holds (pick u (_upTo_ (acrossOf x + (a + 256 * b) * relativeStep s) (rightOf s) ∷ []) (_upTo_ (leftOf s + (0x10000 - (a + 256 * b)) * relativeStep s) (acrossOf x) ∷ []))
-        → At (moved k (relativeMotion (forceOf s t n) a b))
+        → At (moved k (relativeMotion (forceOf s t g) a b))
         (pick u (acrossOf x + (a + 256 * b) * relativeStep s) (acrossOf x - (0x10000 - (a + 256 * b)) * relativeStep s))
     go true u l = let v : a + 256 * b < 0x8000 = ltb-true _ _ u in rw (lt-leb 128 b (omega arith)) (omega arith)
     go false u l =
@@ -169,27 +169,42 @@ follow-relative s t x n a b k ha hb h e = go (ltb (a + 256 * b) 0x8000) refl h
         rw (le-leb 128 b (omega arith))
         (forth-back k (acrossOf x) (a + 256 * b) (0x10000 - (a + 256 * b)) (relativeStep s) e (omega arith) (omega arith))
 
-pub follow : (p : Printer) (n : ℕ) (c : Command) (m : ℕ) (k j : Axis) → Done p c m → InStep c n → Bounded p
+-- the reckoning's part of an image byte is the rules'
+own-part : (m : ImageMode) (k : ℕ) → pick (eqb (imageBytes m) 3) k 0 ≡ columnPart m k
+own-part ImageMode.Single k = refl
+own-part ImageMode.Double k = refl
+own-part ImageMode.DoubleSpeed k = refl
+own-part ImageMode.Quadruple k = refl
+own-part ImageMode.Crt80 k = refl
+own-part ImageMode.Crt90 k = refl
+own-part ImageMode.Single24 k = refl
+own-part ImageMode.Double24 k = refl
+own-part ImageMode.Crt24 k = refl
+own-part ImageMode.Triple24 k = refl
+own-part ImageMode.Hex24 k = refl
+
+pub follow : (p : Printer) (g : Image) (c : Command) (m : ℕ) (k j : Axis) → Done p c m → InStep c g → Bounded p
     → At k (acrossOf (p .place)) → At j (downOf (p .place))
-    → Follows (changeOf (forceOf (p .settings) (p .stops) n) c m) (effectAt p c m) k j
-follow p n (Command.Letter b) m k j h i f a d = follows refl (omega arith) d refl
-follow p n (Command.Control c b) m k j h i f a d = follow-control (p .settings) (p .stops) (p .place) n c m k j (h .needs) a d
-follow p n (Command.Refused r) m k j h i f a d = follows refl a d refl
-follow p n (Command.Silent c) m k j h i f a d = follows refl a d refl
-follow p n Command.Reset m k j h i f a d = follows refl refl refl refl
-follow p n (Command.Mode c) m k j h i f a d = follows (agree-mode (p .settings) (p .stops) n c) a d refl
-follow p n (Command.Parameter c v) m k j h i f a d =
-    follows (agree-parameter (p .settings) (p .stops) n c v (h .range .parameter c v refl)) a d refl
-follow p n (Command.Look c) m k j h i f a d = follows (agree-look (p .settings) (p .stops) n c) a d refl
-follow p n (Command.Skip v) m k j h i f a d = follows refl a d refl
-follow p n (Command.Feed v) m k j h i f a d = follows refl a (feed-down (p .settings) (p .place) v m j (h .needs) (f .within) d) refl
-follow p n (Command.Margin Side.Left v) m k j h i f a d = follows refl refl d refl
-follow p n (Command.Margin Side.Right v) m k j h i f a d = follows refl refl d refl
-follow p n (Command.Page (Page.Lines v)) m k j h i f a d = follows refl a refl refl
-follow p n (Command.Page (Page.Inches v)) m k j h i f a d = follows refl a refl refl
-follow p n (Command.Move Move.Absolute u b) m k j h i f a d = follows refl refl d refl
-follow p n (Command.Move Move.Relative u b) m k j h i f a d =
-    follows refl (follow-relative (p .settings) (p .stops) (p .place) n u b k (h .bytes .1 .0) (h .bytes .1 .1 .0) (h .needs) a) d refl
-follow p n (Command.OpenImage u b v) m k j h i f a d = follows refl a d refl
-follow p n (Command.ImageByte u b) m k j h i f a d = let e = i u b refl in follows refl (omega arith) d (rw e)
-follow p n (Command.List u part) m k j h i f a d = follows (agree-list (p .settings) (p .stops) n u part (f .stops .typed) (h .needs)) a d refl
+    → Follows (changeOf (forceOf (p .settings) (p .stops) g) c m) (effectAt p c m) k j
+follow p g (Command.Letter b) m k j h i f a d = follows refl (omega arith) d refl
+follow p g (Command.Control c b) m k j h i f a d = follow-control (p .settings) (p .stops) (p .place) g c m k j (h .needs) a d
+follow p g (Command.Refused r) m k j h i f a d = follows refl a d refl
+follow p g (Command.Silent c) m k j h i f a d = follows refl a d refl
+follow p g Command.Reset m k j h i f a d = follows refl refl refl refl
+follow p g (Command.Mode c) m k j h i f a d = follows (agree-mode (p .settings) (p .stops) g c) a d refl
+follow p g (Command.Parameter c v) m k j h i f a d =
+    follows (agree-parameter (p .settings) (p .stops) g c v (h .range .parameter c v refl)) a d refl
+follow p g (Command.Look c) m k j h i f a d = follows (agree-look (p .settings) (p .stops) g c) a d refl
+follow p g (Command.Skip v) m k j h i f a d = follows refl a d refl
+follow p g (Command.Feed v) m k j h i f a d = follows refl a (feed-down (p .settings) (p .place) v m j (h .needs) (f .within) d) refl
+follow p g (Command.Margin Side.Left v) m k j h i f a d = follows refl refl d refl
+follow p g (Command.Margin Side.Right v) m k j h i f a d = follows refl refl d refl
+follow p g (Command.Page (Page.Lines v)) m k j h i f a d = follows refl a refl refl
+follow p g (Command.Page (Page.Inches v)) m k j h i f a d = follows refl a refl refl
+follow p g (Command.Move Move.Absolute u b) m k j h i f a d = follows refl refl d refl
+follow p g (Command.Move Move.Relative u b) m k j h i f a d =
+    follows refl (follow-relative (p .settings) (p .stops) (p .place) g u b k (h .bytes .1 .0) (h .bytes .1 .1 .0) (h .needs) a) d refl
+follow p g (Command.OpenImage u b v) m k j h i f a d = follows refl a d refl
+follow p g (Command.ImageByte u v b) m k j h i f a d =
+    let e = i u v b refl in follows refl (rw e (omega arith)) d (rw (e, own-part u v))
+follow p g (Command.List u part) m k j h i f a d = follows (agree-list (p .settings) (p .stops) g u part (f .stops .typed) (h .needs)) a d refl

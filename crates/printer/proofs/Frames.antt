@@ -10,11 +10,11 @@ use lib.ListN.{length, getD}
 use borrow.Author.Tests.{eqb-true, eqb-false, leb-false, leb-true, le-leb, ltb-true, ne-eqb}
 use Rattle.printer.specs.Tools.{both, within}
 use Rattle.printer.specs.Escapes.{modes, looks, parameters, choices}
-use Rattle.printer.specs.Codes.{controlCode, oneCode, twoCode, begunBy, firstCode, secondCode, firsts, seconds, plainEscapes, argumentEscapes, otherEscapes, spelt}
-use Rattle.printer.specs.Framing.{isLetter, readAs, controls, escapes, firstOf, secondOf, oneCommand, twoCommand, afterTwo, imageWait, firstFrame, secondFrame, advancedFrame, modeFrame, continued, frame}
+use Rattle.printer.specs.Codes.{controlCode, oneCode, twoCode, begunBy, firstCode, secondCode, selectedNumber, firsts, seconds, plainEscapes, argumentEscapes, otherEscapes, imageModes, spelt}
+use Rattle.printer.specs.Framing.{isLetter, readAs, controls, escapes, selections, firstOf, secondOf, selectedOf, oneCommand, twoCommand, afterTwo, openedMode, imageWait, firstFrame, secondFrame, advancedFrame, modeFrame, selectedFrame, continued, frame}
 use Rattle.printer.specs.Deciding.{reasonOf}
-use Rattle.printer.specs.Spelling.{pending, among, listedControls, listedEscapes, StandsFor, Unlisted, Begins, Classified}
-use Rattle.printer.specs.Types.{Begun, Command, Control, Density, First, Frame, ListPart, Look, One, Page, Refused, Second, Silent, Tabs, Two, Waiting}
+use Rattle.printer.specs.Spelling.{pending, among, listedControls, listedEscapes, listedImageModes, StandsFor, Unlisted, Begins, Classified}
+use Rattle.printer.specs.Types.{Begun, Command, Control, First, Frame, ImageMode, ListPart, Look, One, Opening, Page, Refused, Second, Selected, Silent, Tabs, Two, Waiting}
 use Rattle.printer.proofs.Choices.{pick-elim, either-elim, either-left, either-right, within-fact}
 use Rattle.printer.proofs.Listed.{found}
 
@@ -24,6 +24,7 @@ known (Refused.Byte b) = omega arith
 known (Refused.Escape b) = omega arith
 known (Refused.Advanced b) = omega arith
 known (Refused.CommandMode n) = omega arith
+known (Refused.ImageMode n) = omega arith
 
 -- Two constructors that are equal
 
@@ -38,7 +39,7 @@ abbrev pub NoList : Command → Type 0
 NoList c = (k : Tabs) (x : ListPart) → c ≡ Command.List k x → Clash
 
 abbrev pub NoImage : Command → Type 0
-NoImage c = (d : Density) (b : ℕ) → c ≡ Command.ImageByte d b → Clash
+NoImage c = (m : ImageMode) (k b : ℕ) → c ≡ Command.ImageByte m k b → Clash
 
 -- nothing, or an escape's second byte, is waited for
 pub data Resting : Waiting → Type 0 where
@@ -54,8 +55,8 @@ pub data Framed (upper : Bool) (l : List ℕ) : Frame → Type 0 where
   -- one that opens a list, or an image
   opensList : {k : Tabs} → spelt (Command.List k ListPart.Open) ≡ l
       → Framed upper l (Frame.Whole (Command.List k ListPart.Open) (Waiting.StopList k 0))
-  opensImage : {d : Density} {a b : ℕ} → spelt (Command.OpenImage d a b) ≡ l
-      → Framed upper l (Frame.Whole (Command.OpenImage d a b) (imageWait d (a + 256 * b)))
+  opensImage : {o : Opening} {a b : ℕ} → spelt (Command.OpenImage o a b) ≡ l
+      → Framed upper l (Frame.Whole (Command.OpenImage o a b) (imageWait (openedMode o) (a + 256 * b)))
 
 -- A command of which nothing is said, since it is no single byte
 
@@ -220,17 +221,17 @@ isControl First.Unlisted = false
 
 control-framed : (upper : Bool) (c : Control) (b : ℕ) → StandsFor upper b (controlCode c)
     → Framed upper (b ∷ []) (Frame.Whole (Command.Control c b) Waiting.Nothing)
-control-framed upper c b s = single refl (control-classified upper c b s) (λ k x z. cc) (λ d m z. cc) rests
+control-framed upper c b s = single refl (control-classified upper c b s) (λ k x z. cc) (λ m i n z. cc) rests
 
 refused-framed : (upper : Bool) (r : Refused) → Unlisted upper r
     → Framed upper (spelt (Command.Refused r)) (Frame.Whole (Command.Refused r) Waiting.Nothing)
-refused-framed upper r u = single refl (refused-classified upper r u) (λ k x z. cc) (λ d m z. cc) rests
+refused-framed upper r u = single refl (refused-classified upper r u) (λ k x z. cc) (λ m i n z. cc) rests
 
 first-framed : (upper : Bool) (f : First) (n b : ℕ) → isControl f ≡ true → n ≡ firstCode f → StandsFor upper b n
     → Framed upper (b ∷ []) (firstFrame f b)
 first-framed upper (First.Control c) n b q e s = control-framed upper c b (rw e at s)
 first-framed upper First.Escape n b q e s =
-    single refl (silent-classified upper (Silent.Escape b) (rw e at s)) (λ k x z. cc) (λ d m z. cc) afterEscape
+    single refl (silent-classified upper (Silent.Escape b) (rw e at s)) (λ k x z. cc) (λ m i n z. cc) afterEscape
 first-framed upper First.Unlisted n b q e s = absurd (clash cc)
 
 begin-framed : (upper : Bool) (b : ℕ) → isLetter upper b ≡ false → Framed upper (b ∷ []) (firstFrame (firstOf (readAs upper b)) b)
@@ -241,7 +242,7 @@ begin-framed upper b e =
     (λ k. refused-framed upper (Refused.Byte b) (unlisted-byte upper b e k))
 
 letter-framed : (upper : Bool) (b : ℕ) → isLetter upper b ≡ true → Framed upper (b ∷ []) (Frame.Whole (Command.Letter b) Waiting.Nothing)
-letter-framed upper b e = single refl (letter-classified upper b (a-letter upper b e)) (λ k x z. cc) (λ d m z. cc) rests
+letter-framed upper b e = single refl (letter-classified upper b (a-letter upper b e)) (λ k x z. cc) (λ m i n z. cc) rests
 
 -- Escapes
 
@@ -267,11 +268,11 @@ begun-framed upper w b q e = begins (go (begunBy w) q e)
 listed-framed : (upper : Bool) (s : Second) (b : ℕ) → isListed s ≡ true → b ≡ secondCode s → Framed upper (b ∷ []) (secondFrame s b)
 listed-framed upper (Second.Control c) b q e = control-framed upper c b (inl e)
 listed-framed upper Second.Reset b q e =
-    alone upper _ Command.Reset (rw e) (plain (λ n z. cc) (λ k n z. cc) (λ r z. cc) (λ k z. cc)) (λ k x z. cc) (λ d m z. cc)
+    alone upper _ Command.Reset (rw e) (plain (λ n z. cc) (λ k n z. cc) (λ r z. cc) (λ k z. cc)) (λ k x z. cc) (λ m i n z. cc)
 listed-framed upper (Second.Mode c) b q e =
-    alone upper _ (Command.Mode c) (rw e) (plain (λ n z. cc) (λ k n z. cc) (λ r z. cc) (λ k z. cc)) (λ k x z. cc) (λ d m z. cc)
+    alone upper _ (Command.Mode c) (rw e) (plain (λ n z. cc) (λ k n z. cc) (λ r z. cc) (λ k z. cc)) (λ k x z. cc) (λ m i n z. cc)
 listed-framed upper (Second.Switch w) b q e =
-    alone upper _ (Command.Look (Look.Switch w)) (rw e) (plain (λ n z. cc) (λ k n z. cc) (λ r z. cc) (λ k z. cc)) (λ k x z. cc) (λ d m z. cc)
+    alone upper _ (Command.Look (Look.Switch w)) (rw e) (plain (λ n z. cc) (λ k n z. cc) (λ r z. cc) (λ k z. cc)) (λ k x z. cc) (λ m i n z. cc)
 listed-framed upper (Second.Begins w) b q e = begun-framed upper w b q e
 listed-framed upper (Second.List t) b q e = opensList {k = t} (rw e)
 listed-framed upper Second.Unlisted b q e = absurd (clash cc)
@@ -286,29 +287,29 @@ second-framed upper b =
 
 one-framed : (upper : Bool) (c : One) (n : ℕ) → Framed upper (oneCode c ∷ n ∷ []) (Frame.Whole (oneCommand c n) Waiting.Nothing)
 one-framed upper (One.Parameter c) n =
-    alone upper _ (Command.Parameter c n) refl (plain (λ m z. cc) (λ k m z. cc) (λ r z. cc) (λ k z. cc)) (λ k x z. cc) (λ d m z. cc)
+    alone upper _ (Command.Parameter c n) refl (plain (λ m z. cc) (λ k m z. cc) (λ r z. cc) (λ k z. cc)) (λ k x z. cc) (λ m i n z. cc)
 one-framed upper (One.Choice c) n =
-    alone upper _ (Command.Look (Look.Choice c n)) refl (plain (λ m z. cc) (λ k m z. cc) (λ r z. cc) (λ k z. cc)) (λ k x z. cc) (λ d m z. cc)
+    alone upper _ (Command.Look (Look.Choice c n)) refl (plain (λ m z. cc) (λ k m z. cc) (λ r z. cc) (λ k z. cc)) (λ k x z. cc) (λ m i n z. cc)
 one-framed upper One.Skip n =
-    alone upper _ (Command.Skip n) refl (plain (λ m z. cc) (λ k m z. cc) (λ r z. cc) (λ k z. cc)) (λ k x z. cc) (λ d m z. cc)
+    alone upper _ (Command.Skip n) refl (plain (λ m z. cc) (λ k m z. cc) (λ r z. cc) (λ k z. cc)) (λ k x z. cc) (λ m i n z. cc)
 one-framed upper One.Feed n =
-    alone upper _ (Command.Feed n) refl (plain (λ m z. cc) (λ k m z. cc) (λ r z. cc) (λ k z. cc)) (λ k x z. cc) (λ d m z. cc)
+    alone upper _ (Command.Feed n) refl (plain (λ m z. cc) (λ k m z. cc) (λ r z. cc) (λ k z. cc)) (λ k x z. cc) (λ m i n z. cc)
 one-framed upper (One.Margin side) n =
-    alone upper _ (Command.Margin side n) refl (plain (λ m z. cc) (λ k m z. cc) (λ r z. cc) (λ k z. cc)) (λ k x z. cc) (λ d m z. cc)
+    alone upper _ (Command.Margin side n) refl (plain (λ m z. cc) (λ k m z. cc) (λ r z. cc) (λ k z. cc)) (λ k x z. cc) (λ m i n z. cc)
 
 two-framed : (upper : Bool) (c : Two) (a b : ℕ)
     → Framed upper (twoCode c ∷ a ∷ b ∷ []) (Frame.Whole (twoCommand c a b) (afterTwo c (a + 256 * b)))
 two-framed upper (Two.Move m) a b =
-    alone upper _ (Command.Move m a b) refl (plain (λ n z. cc) (λ k n z. cc) (λ r z. cc) (λ k z. cc)) (λ k x z. cc) (λ d n z. cc)
-two-framed upper (Two.Image d) a b = opensImage refl
+    alone upper _ (Command.Move m a b) refl (plain (λ n z. cc) (λ k n z. cc) (λ r z. cc) (λ k z. cc)) (λ k x z. cc) (λ u i n z. cc)
+two-framed upper (Two.Image d) a b = opensImage {o = Opening.Named d} refl
 
 page-framed : (upper : Bool) (g : Page) → Framed upper (spelt (Command.Page g)) (Frame.Whole (Command.Page g) Waiting.Nothing)
 page-framed upper g =
-    alone upper _ (Command.Page g) refl (plain (λ n z. cc) (λ k n z. cc) (λ r z. cc) (λ k z. cc)) (λ k x z. cc) (λ d m z. cc)
+    alone upper _ (Command.Page g) refl (plain (λ n z. cc) (λ k n z. cc) (λ r z. cc) (λ k z. cc)) (λ k x z. cc) (λ m i n z. cc)
 
 silent-framed : (upper : Bool) (k : Silent) (l : List ℕ) → spelt (Command.Silent k) ≡ l → Begins upper k
     → Framed upper l (Frame.Whole (Command.Silent k) Waiting.Nothing)
-silent-framed upper k l e h = single e (silent-classified upper k h) (λ t x z. cc) (λ d m z. cc) rests
+silent-framed upper k l e h = single e (silent-classified upper k h) (λ t x z. cc) (λ m i n z. cc) rests
 
 advanced-framed : (upper : Bool) (b : ℕ) → Framed upper (begunBy Begun.Advanced ++ (b ∷ [])) (advancedFrame b)
 advanced-framed upper b =
@@ -324,6 +325,22 @@ mode-framed upper n =
     (λ e. silent-framed upper Silent.KeepMode _ (rw (eqb-true n 0 e)) tt)
     (λ e. refused-framed upper (Refused.CommandMode n) (eqb-false n 0 e))
 
+-- the mode of ESC *
+abbrev isMode : Selected → Bool
+isMode (Selected.Mode m) = true
+isMode Selected.Unlisted = false
+
+selected-framed : (upper : Bool) (s : Selected) (b : ℕ) → isMode s ≡ true → b ≡ selectedNumber s
+    → Framed upper (begunBy Begun.SelectMode ++ (b ∷ [])) (selectedFrame s b)
+selected-framed upper (Selected.Mode m) b q e = begins {w = Begun.ColumnsLow m} (rw e)
+selected-framed upper Selected.Unlisted b q e = absurd (clash cc)
+
+select-framed : (upper : Bool) (b : ℕ) → Framed upper (begunBy Begun.SelectMode ++ (b ∷ [])) (selectedFrame (selectedOf b) b)
+unfolding selections imageModes listedImageModes
+select-framed upper b =
+    found (λ (s : Selected). Framed upper (begunBy Begun.SelectMode ++ (b ∷ [])) (selectedFrame s b)) isMode selectedNumber imageModes Selected.Unlisted b refl
+    (λ s q e. selected-framed upper s b q e) (λ k. refused-framed upper (Refused.ImageMode b) k)
+
 argument-framed : (upper : Bool) (w : Begun) (b : ℕ) → Framed upper (begunBy w ++ (b ∷ [])) (continued w b)
 argument-framed upper (Begun.One c) b = one-framed upper c b
 argument-framed upper Begun.PageLength b =
@@ -334,6 +351,9 @@ argument-framed upper Begun.Advanced b = advanced-framed upper b
 argument-framed upper Begun.CommandMode b = mode-framed upper b
 argument-framed upper (Begun.FirstOf c) b = begins refl
 argument-framed upper (Begun.SecondOf c a) b = two-framed upper c a b
+argument-framed upper Begun.SelectMode b = select-framed upper b
+argument-framed upper (Begun.ColumnsLow m) b = begins refl
+argument-framed upper (Begun.ColumnsHigh m a) b = opensImage {o = Opening.Selected m} refl
 
 -- A byte after nothing, after an escape's first byte, and an argument
 
@@ -354,8 +374,8 @@ framed-argument upper w b = argument-framed upper w b
 pub list-classified : (upper : Bool) (t : Tabs) (part : ListPart) → Classified upper (Command.List t part)
 list-classified upper t part = unclassified upper _ (plain (λ n z. cc) (λ k n z. cc) (λ r z. cc) (λ k z. cc))
 
-pub open-classified : (upper : Bool) (d : Density) (a b : ℕ) → Classified upper (Command.OpenImage d a b)
-open-classified upper d a b = unclassified upper _ (plain (λ n z. cc) (λ k n z. cc) (λ r z. cc) (λ k z. cc))
+pub open-classified : (upper : Bool) (o : Opening) (a b : ℕ) → Classified upper (Command.OpenImage o a b)
+open-classified upper o a b = unclassified upper _ (plain (λ n z. cc) (λ k n z. cc) (λ r z. cc) (λ k z. cc))
 
-pub image-classified : (upper : Bool) (d : Density) (b : ℕ) → Classified upper (Command.ImageByte d b)
-image-classified upper d b = unclassified upper _ (plain (λ n z. cc) (λ k n z. cc) (λ r z. cc) (λ k z. cc))
+pub image-classified : (upper : Bool) (m : ImageMode) (k b : ℕ) → Classified upper (Command.ImageByte m k b)
+image-classified upper m k b = unclassified upper _ (plain (λ n z. cc) (λ k n z. cc) (λ r z. cc) (λ k z. cc))

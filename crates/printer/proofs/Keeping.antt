@@ -5,19 +5,21 @@ use mathlib.Core.Bool.{Bool, true, false}
 use mathlib.Core.List.{List, [], _∷_}
 use native.Mathlib.Omega.{arith}
 use native.Mathlib.Nat.{mod-lt, div-add-mod', mul-le-mul-left}
-use lib.Dec.{ltb}
+use lib.Dec.{ltb, eqb}
 use lib.ListN.{length-set}
 use borrow.Author.Tests.{leb-true}
 use Rattle.printer.specs.Tools.{pick, _upTo_, Holds, Bytes}
-use Rattle.printer.specs.Widths.{base, doubleWidth, advance, imageStep}
+use Rattle.printer.specs.Widths.{base, doubleWidth, advance, imageStep, imageBytes}
 use Rattle.printer.specs.Settings.{leftOf, rightOf, edgeOf, relativeStep, acrossOf, downOf, at}
 use Rattle.printer.specs.Escapes.{modeRow, parameterRow, choiceRow, lookTakes, lookSettings}
 use Rattle.printer.specs.Codes.{spelt}
-use Rattle.printer.specs.Performing.{Event, done, passed, inside, automatic, Writing, silent, letter, imageByte, feed, clear, controlEffect, effectAt, listStops, relativeMove, perform, performAll}
+use Rattle.printer.specs.Performing.{Event, done, passed, inside, automatic, Writing, silent, letter, imageByte, feed, clear, controlEffect, effectAt, lastOfColumn, columnMove, columnPart, listStops, relativeMove, perform, performAll}
 use Rattle.printer.specs.Deciding.{relativeNeeds, controlNeeds}
 use Rattle.printer.specs.Bounds.{settingsBounds, placeBounds, columnBounds, lineBounds}
 use Rattle.printer.specs.Accepted.{StopsTyped}
-use Rattle.printer.specs.Types.{Choice, Command, Control, Density, ListPart, Look, Mode, Move, Parameter, Pitch, Place, Printer, Settings, Side, Stops, Switch, Tabs, Width}
+use Rattle.printer.specs.Types.{Choice, Command, Control, ImageMode, ListPart, Look, Mode, Move, Parameter, Pitch, Place, Printer, Settings, Side, Stops, Switch, Tabs, Width}
+use Rattle.printer.proofs.Choices.{pick-elim}
+use Rattle.printer.proofs.Modes.{step-within}
 use Rattle.printer.proofs.Accepting.{power-on-accepted, power-on-typed}
 use Rattle.printer.proofs.Legal.{Gathered, Done, Legal, LegalAll}
 
@@ -42,11 +44,12 @@ advance-le w h =
     doubled-le (doubleWidth w) (base (w .pitch) (w .reduced) (w .proportional) + 20 * w .spacing) 2900
     (omega (arith, base-le (w .pitch) (w .reduced) (w .proportional)))
 
-step-le : (d : Density) → imageStep d ≤ 60
-step-le Density.Single = omega arith
-step-le Density.Double = omega arith
-step-le Density.DoubleSpeed = omega arith
-step-le Density.Quadruple = omega arith
+-- a byte moves the place by no more than its column's step, and bears no more than its number
+move-le : (m : ImageMode) (k : ℕ) → columnMove m k ≤ imageStep m
+move-le m k = pick-elim (λ (n : ℕ). n ≤ imageStep m) (lastOfColumn m k) (λ _. omega arith) (λ _. omega arith)
+
+part-le : (m : ImageMode) (k : ℕ) → k ≤ 255 → columnPart m k ≤ 255
+part-le m k h = pick-elim (λ (n : ℕ). n ≤ 255) (eqb (imageBytes m) 1) (λ _. omega arith) (λ _. h)
 
 -- the pages that ESC J turns are few
 pages-fit : (down n edge : ℕ) → down ≤ 79200 → n ≤ 255 → 3600 ≤ edge → (down + 20 * n) / edge ≤ 255
@@ -98,7 +101,7 @@ keep-choice s x Choice.Download n b r f = f
 abbrev pub Writable : Settings → Place → Writing → Type 0
 Writable s x silent = Unit
 Writable s x (letter b n) = (b ≤ 255) × (n ≤ 65535) × (acrossOf x + n ≤ rightOf s)
-Writable s x (imageByte b n) = (b ≤ 255) × (n ≤ 65535) × (acrossOf x + n ≤ rightOf s)
+Writable s x (imageByte b part n) = (b ≤ 255) × (n ≤ 65535) × (acrossOf x + n ≤ rightOf s) × (part ≤ 255)
 Writable s x (feed pages) = pages ≤ 255
 Writable s x clear = Unit
 
@@ -215,11 +218,12 @@ keep-done p (Command.Page g) n h k = let m = h .needs in (record { within = omeg
 keep-done p (Command.Move Move.Absolute a b) n h k = let m = h .needs in (record { within = omega arith; stops = k .stops }, tt)
 keep-done p (Command.Move Move.Relative a b) n h k =
     (record { within = keep-relative (p .settings) (p .place) (a + 256 * b) (h .needs) (k .within); stops = k .stops }, tt)
-keep-done p (Command.OpenImage d a b) n h k = (k, tt)
-keep-done p (Command.ImageByte d b) n h k =
-    let m = h .needs in
-    let a = step-le d in
-    (record { within = omega arith; stops = k .stops }, (h .bytes .0, omega arith, m .0))
+keep-done p (Command.OpenImage o a b) n h k = (k, tt)
+keep-done p (Command.ImageByte m i b) n h k =
+    let v = h .needs in
+    let a = step-within m .1 in
+    let u = move-le m i in
+    (record { within = omega arith; stops = k .stops }, (h .bytes .0, omega arith, v .0, part-le m i (h .given .part m i b refl)))
 keep-done p (Command.List t part) n h k =
     (record { within = k .within; stops = keep-stops (p .settings) (p .stops) t part (λ b z. h .given .end t b (rw z)) (k .stops) }, tt)
 

@@ -12,7 +12,8 @@ use Rattle.printer.specs.Tools.{Holds, Bytes}
 use Rattle.printer.specs.Units.{narrowestPaper, widestPaper}
 use Rattle.printer.specs.Settings.{lineOf}
 use Rattle.printer.specs.PowerOn.{powerOn}
-use Rattle.printer.specs.Framing.{frame, imageWait, listFrame}
+use Rattle.printer.specs.Widths.{imageBytes}
+use Rattle.printer.specs.Framing.{frame, openedMode, imageWait, afterImageByte, listFrame}
 use Rattle.printer.specs.Performing.{Event, stopOf, listStops, perform, performAll}
 use Rattle.printer.specs.Deciding.{mostStops, stopPlace, stopNeeds, attempt, decide}
 use Rattle.printer.specs.Codes.{spelt, begunBy}
@@ -21,11 +22,12 @@ use Rattle.printer.specs.Bounds.{settingsBounds, gatheringBounds, waitin
 pub use Rattle.printer.specs.Accepted.{Ours}
 use Rattle.printer.specs.Accepted.{Accepted, Typed, StopsTyped, waitingTyped}
 use Rattle.printer.specs.Spelling.{Classified}
-use Rattle.printer.specs.Types.{Command, Density, Frame, ListPart, Printer, Settings, Setup, Stops, Tabs, Waiting}
+use Rattle.printer.specs.Types.{Command, Frame, ImageMode, ListPart, Opening, Printer, Settings, Setup, Stops, Tabs, Waiting}
 use Rattle.printer.proofs.Choices.{pick-elim, bytes-append}
 use Rattle.printer.proofs.Accepting.{power-on-accepted, power-on-typed}
 use Rattle.printer.proofs.StopLists.{list-more, last-more}
-use Rattle.printer.proofs.Frames.{NoList, clash, Framed, begins, single, opensList, opensImage, rests, afterEscape, list-classified, open-classified, image-classified, framed-first, framed-second, framed-argument}
+use Rattle.printer.proofs.Modes.{bytes-within}
+use Rattle.printer.proofs.Frames.{NoList, NoImage, clash, Framed, begins, single, opensList, opensImage, rests, afterEscape, list-classified, open-classified, image-classified, framed-first, framed-second, framed-argument}
 use Rattle.printer.proofs.Keeping.{Bounded, keep-all}
 use Rattle.printer.proofs.Legal.{Gathered, Above, Given, given-none, LegalAll, attempted, legal-decide}
 
@@ -45,18 +47,26 @@ sound-given : (p : Printer) (c : Command) (w : Waiting) → Bytes (spelt c) → 
 sound-given p c w b g k h t = record { legal = legal-decide p c b g k; waits = h; typed = t }
 
 -- one that is no byte of a list
-sound-whole : (p : Printer) (c : Command) (w : Waiting) → Bytes (spelt c) → NoList c → Classified (p .settings .upperprints) c
+sound-whole : (p : Printer) (c : Command) (w : Waiting) → Bytes (spelt c) → NoList c → NoImage c → Classified (p .settings .upperprints) c
     → Waits (performAll p (decide p c)) w → waitingTyped w → Sound p (Frame.Whole c w)
-sound-whole p c w b n k h t =
-    sound-given p c w b (given-none (p .settings) (p .stops) c n) k h t
+sound-whole p c w b n i k h t =
+    sound-given p c w b (given-none (p .settings) (p .stops) c n i) k h t
 
-wait-image : (p : Printer) (d : Density) (n : ℕ) → n ≤ 65535 → Waits p (imageWait d n)
-wait-image p d n h =
+wait-image : (p : Printer) (m : ImageMode) (n : ℕ) → n ≤ 65535 → Waits p (imageWait m n)
+wait-image p m n h =
     pick-elim (Waits p) (eqb n 0) (λ _. tt)
-    (λ e. let k : (n ≡ 0 → ⊥) = eqb-false n 0 e in (omega arith, (h, tt)))
+    (λ e. let k : (n ≡ 0 → ⊥) = eqb-false n 0 e in (omega arith, (h, (omega arith, (bytes-within m .0, tt)))))
 
-typed-image : (d : Density) (n : ℕ) → waitingTyped (imageWait d n)
-typed-image d n = pick-elim waitingTyped (eqb n 0) (λ _. tt) (λ _. tt)
+wait-byte : (p : Printer) (m : ImageMode) (k n : ℕ) → n ≤ 65535 → 1 ≤ n → k ≤ imageBytes m → Waits p (afterImageByte m k n)
+wait-byte p m k n h l u =
+    pick-elim (Waits p) (eqb k (imageBytes m)) (λ _. wait-image p m (n - 1) (omega arith))
+    (λ e. let v : (k ≡ imageBytes m → ⊥) = eqb-false k (imageBytes m) e in (l, (h, (omega arith, (omega (arith, v), tt)))))
+
+typed-image : (m : ImageMode) (n : ℕ) → waitingTyped (imageWait m n)
+typed-image m n = pick-elim waitingTyped (eqb n 0) (λ _. tt) (λ _. tt)
+
+typed-byte : (m : ImageMode) (k n : ℕ) → waitingTyped (afterImageByte m k n)
+typed-byte m k n = pick-elim waitingTyped (eqb k (imageBytes m)) (λ _. typed-image m (n - 1)) (λ _. tt)
 
 sound-waits : (p : Printer) (w : Waiting) → Waits p w → waitingTyped w → Sound p (Frame.Waits w)
 unfolding performAll
@@ -70,23 +80,28 @@ wait-opened p Tabs.Vertical = omega arith
 
 sound-opened : (p : Printer) (k : Tabs) → Bytes (spelt (Command.List k ListPart.Open)) → Sound p (Frame.Whole (Command.List k ListPart.Open) (Waiting.StopList k 0))
 sound-opened p k h =
-    sound-given p (Command.List k ListPart.Open) (Waiting.StopList k 0) h (record { stop = λ j m z. absurd (clash cc); end = λ j m z. absurd (clash cc) }) (list-classified _ k _) (wait-opened p k) (omega arith)
+    sound-given p (Command.List k ListPart.Open) (Waiting.StopList k 0) h (record { stop = λ j m z. absurd (clash cc); end = λ j m z. absurd (clash cc); part = λ m j n z. absurd (clash cc) }) (list-classified _ k _) (wait-opened p k) (omega arith)
 
-sound-image : (p : Printer) (d : Density) (a b : ℕ) → Bytes (spelt (Command.OpenImage d a b))
-    → Sound p (Frame.Whole (Command.OpenImage d a b) (imageWait d (a + 256 * b)))
-sound-image p d a b h =
-    sound-whole p (Command.OpenImage d a b) (imageWait d (a + 256 * b)) h (λ k x z. cc) (open-classified _ d a b)
-    (wait-image (performAll p (decide p (Command.OpenImage d a b))) d (a + 256 * b) (let u = h .1 .0 in let v = h .1 .1 .0 in omega arith)) (typed-image d (a + 256 * b))
+-- an image is opened
+opened-columns : (o : Opening) (a b : ℕ) → Bytes (spelt (Command.OpenImage o a b)) → a + 256 * b ≤ 65535
+opened-columns (Opening.Named d) a b h = let u = h .1 .0 in let v = h .1 .1 .0 in omega arith
+opened-columns (Opening.Selected m) a b h = let u = h .1 .1 .0 in let v = h .1 .1 .1 .0 in omega arith
+
+sound-image : (p : Printer) (o : Opening) (a b : ℕ) → Bytes (spelt (Command.OpenImage o a b))
+    → Sound p (Frame.Whole (Command.OpenImage o a b) (imageWait (openedMode o) (a + 256 * b)))
+sound-image p o a b h =
+    sound-whole p (Command.OpenImage o a b) (imageWait (openedMode o) (a + 256 * b)) h (λ k x z. cc) (λ m k n z. cc) (open-classified _ o a b)
+    (wait-image (performAll p (decide p (Command.OpenImage o a b))) (openedMode o) (a + 256 * b) (opened-columns o a b h)) (typed-image (openedMode o) (a + 256 * b))
 
 as-bytes : {a l : List ℕ} → a ≡ l → Bytes l → Bytes a
 as-bytes e h = rw e h
 
 sound-framed : (p : Printer) (l : List ℕ) (f : Frame) → Bytes l → Framed (p .settings .upperprints) l f → Sound p f
 sound-framed p l (Frame.Waits w) h (begins e) = sound-waits p w tt (as-bytes e h)
-sound-framed p l (Frame.Whole c w) h (single e k n i rests) = sound-whole p c w (as-bytes e h) n k tt tt
-sound-framed p l (Frame.Whole c w) h (single e k n i afterEscape) = sound-whole p c w (as-bytes e h) n k tt tt
+sound-framed p l (Frame.Whole c w) h (single e k n i rests) = sound-whole p c w (as-bytes e h) n i k tt tt
+sound-framed p l (Frame.Whole c w) h (single e k n i afterEscape) = sound-whole p c w (as-bytes e h) n i k tt tt
 sound-framed p l (Frame.Whole (Command.List k ListPart.Open) w) h (opensList e) = sound-opened p k (as-bytes e h)
-sound-framed p l (Frame.Whole (Command.OpenImage d a b) w) h (opensImage e) = sound-image p d a b (as-bytes e h)
+sound-framed p l (Frame.Whole (Command.OpenImage o a b) w) h (opensImage e) = sound-image p o a b (as-bytes e h)
 
 -- a byte of a list, above the byte before
 
@@ -152,11 +167,22 @@ sound-list : (p : Printer) (k : Tabs) (before b : ℕ) → b ≤ 255 → Bounded
 sound-list p k before b m f h =
     pick-elim (Sound p) (leb b before)
     (λ _. sound-given p (Command.List k (ListPart.End b)) Waiting.Nothing (m, tt)
-    (record { stop = λ j n z. absurd (clash cc); end = λ j n z. rw (list-kind k j _ _ z) at (h .1) }) (list-classified _ k _) tt tt)
+    (record { stop = λ j n z. absurd (clash cc); end = λ j n z. rw (list-kind k j _ _ z) at (h .1); part = λ m j n z. absurd (clash cc) }) (list-classified _ k _) tt tt)
     (λ e. let l : before < b = leb-false _ _ e in
     sound-given p (Command.List k (ListPart.Byte b)) (Waiting.StopList k b) (m, tt)
-    (record { stop = λ j n z. given-stop p k j b n z (h .1) (above (p .settings) (p .stops) k before b l h); end = λ j n z. absurd (clash cc) }) (list-classified _ k _)
+    (record { stop = λ j n z. given-stop p k j b n z (h .1) (above (p .settings) (p .stops) k before b l h); end = λ j n z. absurd (clash cc); part = λ m j n z. absurd (clash cc) }) (list-classified _ k _)
     (wait-list p k before b l m f h) m)
+
+part-same : (m u : ImageMode) (k b v n : ℕ) → Command.ImageByte m k b ≡ Command.ImageByte u v n → k ≡ v
+part-same m u k b v n z = cc
+
+given-part : (p : Printer) (m : ImageMode) (k b : ℕ) → k ≤ 255 → Given (p .settings) (p .stops) (Command.ImageByte m k b)
+given-part p m k b h =
+    record {
+      stop = λ j n z. absurd (clash cc);
+      end = λ j n z. absurd (clash cc);
+      part = λ u v n z. rw (part-same m u k b v n z) at h;
+    }
 
 sound-at : (p : Printer) (w : Waiting) (b : ℕ) → b ≤ 255 → Bounded p → Waits p w → waitingTyped w → Sound p (frame (p .settings .upperprints) w b)
 unfolding frame
@@ -165,9 +191,9 @@ sound-at p Waiting.SecondByte b m f h t = sound-framed p _ _ (m, tt) (framed-sec
 sound-at p (Waiting.Arguments w) b m f h t =
     sound-framed p _ _ (bytes-append (begunBy w) (b ∷ []) t (m, tt)) (framed-argument _ w b)
 sound-at p (Waiting.StopList k before) b m f h t = sound-list p k before b m f h
-sound-at p (Waiting.ImageData d n) b m f h t =
-    sound-whole p (Command.ImageByte d b) (imageWait d (n - 1)) (m, tt) (λ k x z. cc) (image-classified _ d b)
-    (wait-image (performAll p (decide p (Command.ImageByte d b))) d (n - 1) (omega arith)) (typed-image d (n - 1))
+sound-at p (Waiting.ImageData d k n) b m f h t =
+    sound-given p (Command.ImageByte d k b) (afterImageByte d k n) (m, tt) (given-part p d k b (omega (arith, h .1 .1 .1 .0, bytes-within d .1))) (image-classified _ d k b)
+    (wait-byte (performAll p (decide p (Command.ImageByte d k b))) d k n (h .1 .0) (h .0) (h .1 .1 .1 .0)) (typed-byte d k n)
 
 pub bounded : (p : Printer) → Typed p → Accepted p → Bounded p
 bounded p t a =

@@ -11,29 +11,29 @@ use lib.Seq.{getD-append-seam, append-snoc}
 use borrow.Author.Tests.{leb-true, leb-false, ltb-true, eqb-true, eqb-false}
 use Rattle.printer.specs.Tools.{both, within, _upTo_, holds, Holds, Bytes}
 use Rattle.printer.specs.Units.{perInchAcross, perInchDown}
-use Rattle.printer.specs.Widths.{advance, imageStep}
+use Rattle.printer.specs.Widths.{advance, imageStep, imageBytes}
 use Rattle.printer.specs.Settings.{acrossOf, leftOf, rightOf, paperWidthOf, pageOf, skipOf, lineOf, edgeOf, downOf, heldIn}
 use Rattle.printer.specs.Escapes.{parameterRow, lookTakes}
 use Rattle.printer.specs.Codes.{spelt}
 use Rattle.printer.specs.Performing.{Event, done, passed, inside, automatic, Writing, silent, letter, imageByte, feed, clear, stopOf, lineFed, perform}
 use Rattle.printer.specs.Deciding.{pageRange, reasonOf, mostStops, tabNeeds, lineNeeds, controlNeeds, needsAt, attempt, ranged, pagesOfLine, letterEvents, feedAfterReturn, columnFrom, tabEvent, lineFrom, verticalEvents, vertical, controlEvents, decide}
 use Rattle.printer.specs.Bounds.{lastOf, lastStop, listBounds}
-use Rattle.printer.specs.InForce.{InForce, keeping}
+use Rattle.printer.specs.InForce.{Image, InForce, keeping}
 use Rattle.printer.specs.Reckoning.{changeOf}
 use Rattle.printer.specs.Spelling.{Classified}
-use Rattle.printer.specs.Types.{Command, Control, Density, ListPart, Look, Parameter, Place, Printer, Settings, Stop, Stops, Tabs}
+use Rattle.printer.specs.Types.{Command, Control, ImageMode, ListPart, Look, Parameter, Place, Printer, Settings, Stop, Stops, Tabs}
 use Rattle.printer.proofs.Choices.{pick-elim, holds-fact}
-use Rattle.printer.proofs.Frames.{known, NoList}
+use Rattle.printer.proofs.Frames.{known, NoList, NoImage}
 
--- what is in force by a state's settings and stops, and an image step
-abbrev pub forceOf : Settings → Stops → ℕ → InForce
-forceOf s t n =
+-- what is in force by a state's settings and stops, and an image
+abbrev pub forceOf : Settings → Stops → Image → InForce
+forceOf s t g =
     record {
       kept = keeping (perInchAcross (s .setup .resolution)) (perInchDown (s .setup .resolution)) (paperWidthOf s);
       width = s .width;
       draft = s .draft;
       upper = s .upperprints;
-      step = n;
+      image = g;
       measures = record { left = leftOf s; right = rightOf s; page = pageOf s; skip = skipOf s; line = lineOf s };
       lists = record { columns = heldIn (t .columns); lines = heldIn (t .lines); gathered = heldIn (t .gathered) };
     }
@@ -66,16 +66,18 @@ Gathered t k = Holds (listBounds (mostStops k) (lastStop k) (t .gathered))
 abbrev pub Above : Settings → Stops → Tabs → ℕ → Type 0
 Above s t k b = 1 ≤ stopOf s k b → lastOf 0 (heldIn (t .gathered)) < stopOf s k b
 
--- what a byte of a list gets from what was waited for; of other commands nothing is said
+-- what a byte of a list or of an image gets from what was waited for; of other commands nothing is said
 pub record Given (s : Settings) (t : Stops) (c : Command) : Type 0 where
   pub stop : (k : Tabs) (b : ℕ) → c ≡ Command.List k (ListPart.Byte b) → Gathered t k × Above s t k b
   pub end : (k : Tabs) (b : ℕ) → c ≡ Command.List k (ListPart.End b) → Gathered t k
+  pub part : (m : ImageMode) (k b : ℕ) → c ≡ Command.ImageByte m k b → k ≤ 255
 
-pub given-none : (s : Settings) (t : Stops) (c : Command) → NoList c → Given s t c
-given-none s t c n =
+pub given-none : (s : Settings) (t : Stops) (c : Command) → NoList c → NoImage c → Given s t c
+given-none s t c n i =
     record {
       stop = λ k b z. let e = n k (ListPart.Byte b) z in absurd (omega arith);
       end = λ k b z. let e = n k (ListPart.End b) z in absurd (omega arith);
+      part = λ m k b z. let e = i m k b z in absurd (omega arith);
     }
 
 -- a command done: its bytes are bytes, its argument is in range, it has what it needs
@@ -86,22 +88,26 @@ pub record Done (p : Printer) (c : Command) (n : ℕ) : Type 0 where
   pub given : Given (p .settings) (p .stops) c
   pub classified : Classified (p .settings .upperprints) c
 
--- an image byte has this step
-abbrev pub InStep : Command → ℕ → Type 0
-InStep c n = (d : Density) (b : ℕ) → c ≡ Command.ImageByte d b → n ≡ imageStep d
+-- an image at the k-th byte of a column
+abbrev pub imageAt : ImageMode → ℕ → Image
+imageAt m k = record { step = imageStep m; bytes = imageBytes m; next = k }
+
+-- an image byte is of this image
+abbrev pub InStep : Command → Image → Type 0
+InStep c g = (m : ImageMode) (k b : ℕ) → c ≡ Command.ImageByte m k b → g ≡ imageAt m k
 
 -- a letter or an image byte that is passed over does not fit, a letter at the left margin
 abbrev pub Overflowing : Printer → (reason : ℕ) → Writing → Type 0
 Overflowing p reason silent = Unit
 Overflowing p reason (letter b n) =
     (acrossOf (p .place) ≡ leftOf (p .settings)) × (rightOf (p .settings) < acrossOf (p .place) + n) × (reason ≡ 4)
-Overflowing p reason (imageByte b n) = (rightOf (p .settings) < acrossOf (p .place) + n) × (reason ≡ 4)
+Overflowing p reason (imageByte b part n) = (rightOf (p .settings) < acrossOf (p .place) + n) × (reason ≡ 4)
 Overflowing p reason (feed pages) = Unit
 Overflowing p reason clear = Unit
 
 -- by what the reckoning says that it would write
 abbrev pub PassedFor : Printer → Command → (reason : ℕ) → Type 0
-PassedFor p c reason = (n : ℕ) → InStep c n → Overflowing p reason (changeOf (forceOf (p .settings) (p .stops) n) c 0 .writing)
+PassedFor p c reason = (g : Image) → InStep c g → Overflowing p reason (changeOf (forceOf (p .settings) (p .stops) g) c 0 .writing)
 
 pub record Passed (p : Printer) (c : Command) (reason : ℕ) : Type 0 where
   pub bytes : Bytes (spelt c)
@@ -251,8 +257,8 @@ module _ (p : Printer) (P : Command → List Event → Type 0) (w : Ways p P) wh
   decided (Command.Margin side n) = tried _ 3 (omega arith) (free (λ k m z. cc) (λ k z. cc)) (λ _ n i. tt)
   decided (Command.Page g) = in-range (pageRange g) _ _ (λ e. tried _ 3 (omega arith) (free (λ k m z. cc) (λ k z. cc)) (λ _ n i. tt)) (λ n i. tt)
   decided (Command.Move m a b) = tried _ 3 (omega arith) (free (λ k n z. cc) (λ k z. cc)) (λ _ n i. tt)
-  decided (Command.OpenImage d a b) = w .does _ 0 (free (λ k n z. cc) (λ k z. cc)) tt
-  decided (Command.ImageByte d b) = tried _ 4 (omega arith) (free (λ k n z. cc) (λ k z. cc)) (λ e n i. (rw (i d b refl) (over _ _ e), refl))
+  decided (Command.OpenImage o a b) = w .does _ 0 (free (λ k n z. cc) (λ k z. cc)) tt
+  decided (Command.ImageByte m k b) = tried _ 4 (omega arith) (free (λ k n z. cc) (λ k z. cc)) (λ e g i. (rw (i m k b refl) (over _ _ e), refl))
   decided (Command.List k part) = tried _ 3 (omega arith) (free (λ k n z. cc) (λ k z. cc)) (λ _ n i. tt)
 
 -- What is decided is legal
@@ -269,7 +275,7 @@ legal-feed p = pick-elim (LegalAll p) (p .settings .setup .autofeed) (λ _. (lin
 legal-letter : (p : Printer) (b : ℕ) → Bytes (b ∷ []) → Classified (p .settings .upperprints) (Command.Letter b) → acrossOf (p .place) ≡ leftOf (p .settings)
     → Legal p (attempt p (Command.Letter b) 4)
 legal-letter p b h k l =
-    attempted (Legal p) p _ 4 (λ n. record { bytes = h; range = free (λ k m z. cc) (λ k z. cc); needs = n; given = given-none _ _ _ (λ k x z. cc); classified = k })
+    attempted (Legal p) p _ 4 (λ n. record { bytes = h; range = free (λ k m z. cc) (λ k z. cc); needs = n; given = given-none _ _ _ (λ k x z. cc) (λ m i n z. cc); classified = k })
     (λ e. record { bytes = h; known = omega arith; overflows = λ n i. (l, over _ _ e, refl); classified = k })
 
 pub legal-decide : (p : Printer) (c : Command) → Bytes (spelt c) → Given (p .settings) (p .stops) c → Classified (p .settings .upperprints) c
@@ -280,7 +286,7 @@ legal-decide p =
       does = λ c n r k h g v. (record { bytes = h; range = r; needs = k; given = g; classified = v }, tt);
       passes = λ c reason k u h g v. (record { bytes = h; known = k; overflows = u; classified = v }, tt);
       wraps = λ b a h g v. (a, (legal-letter _ b h v (fed-left (p .settings) (p .place) (pagesOfLine p)), tt));
-      returns = λ b h g v. (record { bytes = h; range = free (λ k n z. cc) (λ k z. cc); needs = tt; given = given-none _ _ _ (λ k x z. cc); classified = v }, legal-feed _);
-      performsReturn = λ b h g v. (record { bytes = h; range = free (λ k n z. cc) (λ k z. cc); needs = tt; given = given-none _ _ _ (λ k x z. cc); classified = v }, (tt, legal-feed _));
-      performs = λ b x n k h g v. (record { bytes = h; range = free (λ k n z. cc) (λ k z. cc); needs = tt; given = given-none _ _ _ (λ k x z. cc); classified = v }, (k, tt));
+      returns = λ b h g v. (record { bytes = h; range = free (λ k n z. cc) (λ k z. cc); needs = tt; given = given-none _ _ _ (λ k x z. cc) (λ m i n z. cc); classified = v }, legal-feed _);
+      performsReturn = λ b h g v. (record { bytes = h; range = free (λ k n z. cc) (λ k z. cc); needs = tt; given = given-none _ _ _ (λ k x z. cc) (λ m i n z. cc); classified = v }, (tt, legal-feed _));
+      performs = λ b x n k h g v. (record { bytes = h; range = free (λ k n z. cc) (λ k z. cc); needs = tt; given = given-none _ _ _ (λ k x z. cc) (λ m i n z. cc); classified = v }, (k, tt));
     })

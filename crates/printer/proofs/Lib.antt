@@ -1,5 +1,6 @@
 pub mod CodeLaws
 pub mod Choices
+pub mod Modes
 pub mod Listed
 pub mod Frames
 pub mod Types
@@ -15,6 +16,7 @@ pub mod Few
 pub mod Cuts
 pub mod Answering
 pub mod Advanced
+pub mod Columns
 pub mod Following
 pub mod NoBytes
 pub mod Claims

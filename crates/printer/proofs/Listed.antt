@@ -8,10 +8,10 @@ use lib.Dec.{leb, eqb}
 use borrow.Author.Tests.{eqb-true, leb-true}
 use Rattle.printer.specs.Tools.{lookup, coded}
 use Rattle.printer.specs.Escapes.{modeRow, parameterRow, switchRow, choiceRow, modes, looks, parameters, choices}
-use Rattle.printer.specs.Codes.{controlCode, oneCode, twoCode, firstCode, secondCode, firsts, seconds, plainEscapes, argumentEscapes, otherEscapes}
-use Rattle.printer.specs.Framing.{controls, escapes, firstOf, secondOf}
-use Rattle.printer.specs.Spelling.{among, listedControls, listedEscapes, EveryListed}
-use Rattle.printer.specs.Types.{Begun, Choice, Control, Density, First, Mode, Move, One, Parameter, Pitch, Second, Side, Switch, Tabs, Two}
+use Rattle.printer.specs.Codes.{controlCode, oneCode, twoCode, firstCode, secondCode, imageModeNumber, selectedNumber, firsts, seconds, plainEscapes, argumentEscapes, otherEscapes, imageModes}
+use Rattle.printer.specs.Framing.{controls, escapes, selections, firstOf, secondOf, selectedOf}
+use Rattle.printer.specs.Spelling.{among, listedControls, listedEscapes, listedImageModes, EveryListed}
+use Rattle.printer.specs.Types.{Begun, Choice, Control, Density, First, ImageMode, Mode, Move, One, Parameter, Pitch, Second, Selected, Side, Switch, Tabs, Two}
 use Rattle.printer.proofs.Choices.{pick-elim, either-left, either-right}
 
 heads : {B : Type 0} {x y : B} {xs ys : List B} → x ∷ xs ≡ y ∷ ys → x ≡ y
@@ -45,7 +45,11 @@ no-escape : (b : ℕ) → among listedEscapes b ≡ false → secondOf b ≡ Sec
 unfolding escapes seconds plainEscapes argumentEscapes otherEscapes modes looks parameters choices listedEscapes
 no-escape b e = missed secondCode seconds Second.Unlisted b e
 
--- every control and escape is found by its code
+no-image-mode : (b : ℕ) → among listedImageModes b ≡ false → selectedOf b ≡ Selected.Unlisted
+unfolding selections imageModes listedImageModes
+no-image-mode b e = missed selectedNumber imageModes Selected.Unlisted b e
+
+-- every control, escape and mode of ESC * is found by its code
 
 control-listed : (c : Control) → firstOf (controlCode c) ≡ First.Control c
 unfolding lookup coded controls firsts
@@ -126,6 +130,20 @@ unfolding lookup coded escapes seconds plainEscapes argumentEscapes otherEscapes
 list-listed Tabs.Horizontal = refl
 list-listed Tabs.Vertical = refl
 
+image-mode-listed : (m : ImageMode) → selectedOf (imageModeNumber m) ≡ Selected.Mode m
+unfolding lookup coded selections imageModes
+image-mode-listed ImageMode.Single = refl
+image-mode-listed ImageMode.Double = refl
+image-mode-listed ImageMode.DoubleSpeed = refl
+image-mode-listed ImageMode.Quadruple = refl
+image-mode-listed ImageMode.Crt80 = refl
+image-mode-listed ImageMode.Crt90 = refl
+image-mode-listed ImageMode.Single24 = refl
+image-mode-listed ImageMode.Double24 = refl
+image-mode-listed ImageMode.Crt24 = refl
+image-mode-listed ImageMode.Triple24 = refl
+image-mode-listed ImageMode.Hex24 = refl
+
 pub every-listed : EveryListed
 unfolding lookup coded controls firsts escapes seconds plainEscapes argumentEscapes otherEscapes modes looks parameters choices
 every-listed =
@@ -140,10 +158,13 @@ every-listed =
       two = two-listed;
       page = refl;
       advanced = refl;
+      select = refl;
       list = list-listed;
       reset = refl;
       noControl = no-control;
       noEscape = no-escape;
+      imageMode = image-mode-listed;
+      noImageMode = no-image-mode;
     }
 
 -- so the codes of escapes are bytes

@@ -6,7 +6,7 @@ use borrow.Author.Tests.{ne-eqb}
 use Rattle.printer.specs.Codes.{oneCode, shows}
 use Rattle.printer.specs.Framing.{secondOf}
 use Rattle.printer.specs.Shown.{noByteOf, noByte}
-use Rattle.printer.specs.Types.{Begun, Command, ListPart, Look, One, Page, Refused, Second, Silent, Tabs}
+use Rattle.printer.specs.Types.{Begun, Command, ListPart, Look, One, Opening, Page, Refused, Second, Silent, Tabs}
 use Rattle.printer.proofs.Frames.{clash}
 use Rattle.printer.proofs.Listed.{every-listed}
 
@@ -24,6 +24,7 @@ refused-shown (Refused.Byte b) = refl
 refused-shown (Refused.Escape b) = refl
 refused-shown (Refused.Advanced b) = refl
 refused-shown (Refused.CommandMode n) = refl
+refused-shown (Refused.ImageMode n) = refl
 
 silent-shown : (k : Silent) → shows (Command.Silent k) ≡ noByte (Command.Silent k)
 silent-shown (Silent.Escape b) = refl
@@ -57,6 +58,7 @@ no-byte (Command.Feed n) = refl
 no-byte (Command.Margin side n) = one-shown (One.Margin side) n
 no-byte (Command.Page g) = page-shown g
 no-byte (Command.Move m a b) = refl
-no-byte (Command.OpenImage d a b) = refl
-no-byte (Command.ImageByte d b) = refl
+no-byte (Command.OpenImage (Opening.Named d) a b) = refl
+no-byte (Command.OpenImage (Opening.Selected m) a b) = refl
+no-byte (Command.ImageByte m k b) = refl
 no-byte (Command.List t part) = list-shown t part

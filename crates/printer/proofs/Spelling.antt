@@ -6,12 +6,13 @@ use mathlib.Core.List.{List, [], _∷_, _++_, append-assoc, append-nil}
 use lib.Dec.{leb, eqb}
 use Rattle.printer.specs.Tools.{Each}
 use Rattle.printer.specs.Codes.{spelt}
-use Rattle.printer.specs.Framing.{imageWait, frame}
+use Rattle.printer.specs.Widths.{imageBytes}
+use Rattle.printer.specs.Framing.{imageWait, afterImageByte, frame}
 use Rattle.printer.specs.Performing.{Event, done, passed, inside, automatic}
 use Rattle.printer.specs.Deciding.{feedAfterReturn, pagesOfLine, decide}
 use Rattle.printer.specs.Steps.{frameAt, eventsIn, nextIn, stepEvents, stepOf, stateAfter, eventsOver}
 use Rattle.printer.specs.Spelling.{pending, speltAll, Classified, ClassifiedEvent, ClassifiedOver}
-use Rattle.printer.specs.Types.{Command, Density, Frame, ListPart, Printer, Tabs, Waiting}
+use Rattle.printer.specs.Types.{Command, Frame, ImageMode, ListPart, Printer, Tabs, Waiting}
 use Rattle.printer.proofs.Choices.{pick-elim, each-map}
 use Rattle.printer.proofs.Frames.{Framed, begins, single, opensList, opensImage, rests, afterEscape, list-classified, open-classified, image-classified, framed-first, framed-second, framed-argument}
 use Rattle.printer.proofs.Legal.{attempted, decided}
@@ -23,8 +24,12 @@ abbrev speltIn : Frame → List ℕ
 speltIn (Frame.Waits w) = pending w
 speltIn (Frame.Whole c w) = spelt c ++ pending w
 
-image-pending : (d : Density) (n : ℕ) → pending (imageWait d n) ≡ []
-image-pending d n = pick-elim (λ (w : Waiting). pending w ≡ []) (eqb n 0) (λ _. refl) (λ _. refl)
+image-pending : (m : ImageMode) (n : ℕ) → pending (imageWait m n) ≡ []
+image-pending m n = pick-elim (λ (w : Waiting). pending w ≡ []) (eqb n 0) (λ _. refl) (λ _. refl)
+
+byte-pending : (m : ImageMode) (k n : ℕ) → pending (afterImageByte m k n) ≡ []
+byte-pending m k n =
+    pick-elim (λ (w : Waiting). pending w ≡ []) (eqb k (imageBytes m)) (λ _. image-pending m (n - 1)) (λ _. refl)
 
 framed-spells : (upper : Bool) (l : List ℕ) (f : Frame) → Framed upper l f → speltIn f ≡ l
 framed-spells upper l (Frame.Waits w) (begins e) = e
@@ -40,7 +45,7 @@ frame-spells upper Waiting.SecondByte b = framed-spells upper _ _ (framed-second
 frame-spells upper (Waiting.Arguments w) b = framed-spells upper _ _ (framed-argument upper w b)
 frame-spells upper (Waiting.StopList t before) b =
     pick-elim (λ (f : Frame). speltIn f ≡ b ∷ []) (leb b before) (λ _. refl) (λ _. refl)
-frame-spells upper (Waiting.ImageData d n) b = rw (image-pending d (n - 1))
+frame-spells upper (Waiting.ImageData m k n) b = rw (byte-pending m k n)
 
 -- each single byte is taken for what it is
 
@@ -52,7 +57,7 @@ framed-classified : (upper : Bool) (l : List ℕ) (f : Frame) → Framed upper l
 framed-classified upper l (Frame.Waits w) (begins e) = tt
 framed-classified upper l (Frame.Whole c w) (single e k n i r) = k
 framed-classified upper l (Frame.Whole (Command.List t ListPart.Open) w) (opensList e) = list-classified upper t ListPart.Open
-framed-classified upper l (Frame.Whole (Command.OpenImage d a b) w) (opensImage e) = open-classified upper d a b
+framed-classified upper l (Frame.Whole (Command.OpenImage o a b) w) (opensImage e) = open-classified upper o a b
 
 frame-classified : (upper : Bool) (w : Waiting) (b : ℕ) → ClassifiedIn upper (frame upper w b)
 unfolding frame
@@ -61,7 +66,7 @@ frame-classified upper Waiting.SecondByte b = framed-classified upper _ _ (frame
 frame-classified upper (Waiting.Arguments w) b = framed-classified upper _ _ (framed-argument upper w b)
 frame-classified upper (Waiting.StopList t before) b =
     pick-elim (ClassifiedIn upper) (leb b before) (λ _. list-classified upper t _) (λ _. list-classified upper t _)
-frame-classified upper (Waiting.ImageData d n) b = image-classified upper d b
+frame-classified upper (Waiting.ImageData m k n) b = image-classified upper m k b
 
 -- The events of a command are that command's
 

@@ -8,27 +8,30 @@ use native.Mathlib.Omega.{arith}
 use lib.ListN.{length}
 use Rattle.printer.specs.Tools.{Each, Bytes}
 use Rattle.printer.specs.Units.{rounded}
+use Rattle.printer.specs.Widths.{imageBytes}
 use Rattle.printer.specs.PowerOn.{powerOn}
-use Rattle.printer.specs.Records.{recordSize, roomForByte, encoded, encodedAll}
+use Rattle.printer.specs.Records.{recordSize, roomForByte, passedRecord, encoded, encodedAll}
 use Rattle.printer.specs.Decoding.{decoded, decodedAll, FitsBytes}
 use Rattle.printer.specs.Bounds.{accepted}
 use Rattle.printer.specs.Accepted.{Accepted, Typed}
 use Rattle.printer.specs.Steps.{stepRecords, stateAfter, recordsOver, eventsOver}
-use Rattle.printer.specs.Spelling.{pending, speltAll, StandsFor, ClassifiedOver, EveryListed}
-use Rattle.printer.specs.Advanced.{AdvancedCommands}
+use Rattle.printer.specs.Spelling.{pending, speltAll, StandsFor, among, listedImageModes, ClassifiedOver, EveryListed}
+use Rattle.printer.specs.Advanced.{OnlyWrites, AdvancedCommands}
+use Rattle.printer.specs.Columns.{Column}
 use Rattle.printer.specs.Calls.{usable, setupOf, startOf, readingOf, outputOf, StartCall, ReadCall, row, numberOf, ThatState, ByTable}
 use Rattle.printer.specs.Promises.{callBy, ReadingPromise}
 use Rattle.printer.specs.Cutting.{Readings, joinedInput, lastState, joinedOutput, bytesRead, ReadToEnd, Resumed, Leaves}
 use Rattle.printer.specs.Reckoning.{Motion, sets, Axis, movedAll, Moves, forthOf, backOf, Reckoning, Occurrence, reckonAll, acrossMotion, downMotion, motions}
 use Rattle.printer.specs.Demand3.{Call, started, Chain, Demand3}
 use Rattle.printer.specs.Cases.{CheckedByHand}
-use Rattle.printer.specs.Types.{Answer, Reading, Started, Record, StartSettings, Printer, Waiting}
+use Rattle.printer.specs.Types.{Answer, ImageMode, Reading, Started, Record, StartSettings, Printer, Waiting}
 use Rattle.printer.proofs.Accepting.{fact-accepted, accepted-fact, power-on-accepted, usable-width}
 use Rattle.printer.proofs.KeepingSteps.{steps-ours}
 use Rattle.printer.proofs.Few.{two-records}
 use Rattle.printer.proofs.Listed.{every-listed}
 use Rattle.printer.proofs.Spelling.{steps-spell, steps-classified}
 use Rattle.printer.proofs.Advanced.{advanced-commands}
+use Rattle.printer.proofs.Columns.{column-from, other-mode}
 use Rattle.printer.proofs.Bytes.{decoded-encoded, decodedAll-encoded}
 use Rattle.printer.proofs.Writing.{steps-fit}
 use Rattle.printer.proofs.Cuts.{gave, calls-state, calls-output, read-to-end, resumed-reads, enough-reads}
@@ -98,6 +101,17 @@ listed = every-listed
 -- ESC i, where nothing is waited for: "a" with 0 and "S" change nothing and write nothing, all else is one NO
 pub advanced : (p : Printer) (b : ℕ) → p .waiting ≡ Waiting.Nothing → StandsFor (p .settings .upperprints) b 0x1B → AdvancedCommands p b
 advanced p b w s = advanced-commands p b w s
+
+-- image columns, in every mode: the bytes of one, from the first, are placed at one place, with their parts in order, and move it by the step; or
+-- each is passed over and the place is left
+pub column : (p : Printer) (m : ImageMode) (n : ℕ) (bytes : List ℕ) → p .waiting ≡ Waiting.ImageData m 1 n → length bytes ≡ imageBytes m
+    → Column p m n bytes
+column p m n bytes w e = column-from p m n bytes w e
+
+-- and ESC * with another mode is one NO, after which reading starts afresh
+pub other-image-mode : (p : Printer) (b m : ℕ) → p .waiting ≡ Waiting.Nothing → StandsFor (p .settings .upperprints) b 0x1B
+    → among listedImageModes m ≡ false → OnlyWrites p (b ∷ 0x2A ∷ m ∷ []) (passedRecord 0x2A 2 ∷ [])
+other-image-mode p b m w s k = other-mode p b m w s k
 
 -- 4. Demand 2, cutting: over calls that kept their promises, each with the state that the one before returned or left
 

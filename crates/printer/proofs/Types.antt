@@ -12,6 +12,7 @@ use Rattle.printer.specs.Codes.{begunBy}
 use Rattle.printer.specs.Accepted.{waitingTyped, StopsTyped, Typed}
 use Rattle.printer.specs.Types.{Begun, Printer, Stops, TabStops, Waiting}
 use Rattle.printer.proofs.Listed.{one-byte, two-byte}
+use Rattle.printer.proofs.Modes.{number-byte}
 use Rattle.printer.proofs.commands.Begun as B
 use Rattle.printer.proofs.commands.Waiting as W
 use Rattle.printer.proofs.stops.Stops as S
@@ -46,13 +47,16 @@ begun Begun.Advanced h = (omega arith, tt)
 begun Begun.CommandMode h = (omega arith, (omega arith, tt))
 begun (Begun.FirstOf c) h = (two-byte c, tt)
 begun (Begun.SecondOf c a) h = (two-byte c, (byte (h .1 .1 .1 .1 .1 .0), tt))
+begun Begun.SelectMode h = (omega arith, tt)
+begun (Begun.ColumnsLow m) h = (omega arith, (number-byte m, tt))
+begun (Begun.ColumnsHigh m a) h = (omega arith, (number-byte m, (byte (h .1 .1 .1 .1 .1 .0), tt)))
 
 waiting : (w : Waiting) {vs : List Val} → Is W.the-row w vs → waitingTyped w
 waiting Waiting.Nothing h = tt
 waiting Waiting.SecondByte h = tt
 waiting (Waiting.Arguments w) h = begun w (h .1 .1 .1 .1 .0)
 waiting (Waiting.StopList k b) h = byte (h .1 .1 .1 .1 .1 .0)
-waiting (Waiting.ImageData d n) h = tt
+waiting (Waiting.ImageData m k n) h = tt
 
 pub typed : (p : Printer) {vs : List Val} → Is P.the-row p vs → Typed p
 typed p h =

@@ -66,13 +66,13 @@ module _ (s : Settings) (x : Place) (f : WithinBounds s x) where
         advance = h .1;
       }
 
-  image-fits : (b n : ℕ) → Writable s x (imageByte b n) → FitsBytes (imageRecord s x b n)
-  image-fits b n h =
+  image-fits : (b part n : ℕ) → Writable s x (imageByte b part n) → FitsBytes (imageRecord s x b part n)
+  image-fits b part n h =
       record {
         column = column-fits (s .setup .resolution) (acrossOf x) (omega arith);
         row = row-fits (s .setup .resolution) (downOf x) (omega arith);
         byte = h .0;
-        font = omega arith;
+        font = omega (arith, h .3);
         style = omega arith;
         country = omega arith;
         advance = h .1;
@@ -97,7 +97,7 @@ clear-fits = omega arith
 written-fits : (s : Settings) (x y : Place) (w : Writing) → WithinBounds s x → downOf y ≤ 79200 → Writable s x w → Each FitsBytes (recordsBy s x y w)
 written-fits s x y silent f d h = tt
 written-fits s x y (letter b n) f d h = (letter-fits s x f b n h, tt)
-written-fits s x y (imageByte b n) f d h = (image-fits s x f b n h, tt)
+written-fits s x y (imageByte b part n) f d h = (image-fits s x f b part n h, tt)
 written-fits s x y (feed pages) f d h = (feed-fits (s .setup .resolution) (downOf y) pages d h, tt)
 written-fits s x y clear f d h = (clear-fits, tt)
 

@@ -23,7 +23,7 @@ waitingTyped Waiting.Nothing = Unit
 waitingTyped Waiting.SecondByte = Unit
 waitingTyped (Waiting.Arguments w) = Bytes (begunBy w)
 waitingTyped (Waiting.StopList k b) = b ≤ 255
-waitingTyped (Waiting.ImageData d n) = Unit
+waitingTyped (Waiting.ImageData m k n) = Unit
 
 pub record StopsTyped (t : Stops) : Type 0 where
   pub columns : length (t .columns .stops) ≡ stopRoom

@@ -4,6 +4,7 @@ use mathlib.Core.Bool.{Bool}
 use mathlib.Core.List.{List, [], _∷_}
 use Rattle.printer.specs.Tools.{pick, both, Order, _upTo_, passes, holds}
 use Rattle.printer.specs.Units.{narrowestPaper, widestPaper, shortestPage, longestPage}
+use Rattle.printer.specs.Widths.{imageBytes}
 use Rattle.printer.specs.Settings.{leftOf, rightOf, paperWidthOf, pageOf, skipOf, lineOf, edgeOf, acrossOf, downOf, heldIn}
 use Rattle.printer.specs.Escapes.{countries}
 use Rattle.printer.specs.Performing.{stopOf}
@@ -63,13 +64,13 @@ abbrev pub gatheringBounds : Settings → Stops → Tabs → ℕ → List Order
 gatheringBounds s t k b =
     (lastOf 0 (heldIn (t .gathered)) upTo stopOf s k b) ∷ listBounds (mostStops k) (lastStop k) (t .gathered)
 
--- what is waited for: image data is 1 to 65,535 columns
+-- what is waited for: image data is 1 to 65,535 columns; document 02, E4: the first byte of a column, or the second or third of three
 abbrev pub waitingBounds : Settings → Stops → Waiting → List Order
 waitingBounds s t Waiting.Nothing = []
 waitingBounds s t Waiting.SecondByte = []
 waitingBounds s t (Waiting.Arguments w) = []
 waitingBounds s t (Waiting.StopList k b) = gatheringBounds s t k b
-waitingBounds s t (Waiting.ImageData d n) = (1 upTo n) ∷ (n upTo 65535) ∷ []
+waitingBounds s t (Waiting.ImageData m k n) = (1 upTo n) ∷ (n upTo 65535) ∷ (1 upTo k) ∷ (k upTo imageBytes m) ∷ []
 
 -- a state within the bounds: the test that answer 4 goes by
 unfoldable pub accepted : Printer → Bool

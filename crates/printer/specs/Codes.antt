@@ -3,7 +3,7 @@ use Prim.Native.Nat.{ℕ}
 use mathlib.Core.List.{List, [], _∷_, _++_, map}
 use lib.ListN.{getD}
 use Rattle.printer.specs.Escapes.{modeRow, parameterRow, switchRow, choiceRow, modes, looks, parameters, choices}
-use Rattle.printer.specs.Types.{Begun, Command, Control, Density, First, ListPart, Look, Move, One, Page, Refused, Second, Side, Silent, Tabs, Two}
+use Rattle.printer.specs.Types.{Begun, Command, Control, Density, First, ImageMode, ListPart, Look, Move, One, Opening, Page, Refused, Second, Selected, Side, Silent, Tabs, Two}
 
 abbrev pub controlCode : Control → ℕ
 controlCode Control.Backspace = 0x08
@@ -46,6 +46,23 @@ modeCode = 0x61
 abbrev pub statusCode : ℕ
 statusCode = 0x53
 
+-- ESC *, and its modes by their numbers
+abbrev selectCode : ℕ
+selectCode = 0x2A
+
+abbrev pub imageModeNumber : ImageMode → ℕ
+imageModeNumber ImageMode.Single = 0
+imageModeNumber ImageMode.Double = 1
+imageModeNumber ImageMode.DoubleSpeed = 2
+imageModeNumber ImageMode.Quadruple = 3
+imageModeNumber ImageMode.Crt80 = 4
+imageModeNumber ImageMode.Crt90 = 6
+imageModeNumber ImageMode.Single24 = 32
+imageModeNumber ImageMode.Double24 = 33
+imageModeNumber ImageMode.Crt24 = 38
+imageModeNumber ImageMode.Triple24 = 39
+imageModeNumber ImageMode.Hex24 = 40
+
 -- an escape begun: its second byte, and its arguments so far
 abbrev pub begunBy : Begun → List ℕ
 begunBy (Begun.One c) = oneCode c ∷ []
@@ -55,6 +72,9 @@ begunBy Begun.Advanced = advancedCode ∷ []
 begunBy Begun.CommandMode = advancedCode ∷ modeCode ∷ []
 begunBy (Begun.FirstOf c) = twoCode c ∷ []
 begunBy (Begun.SecondOf c a) = twoCode c ∷ a ∷ []
+begunBy Begun.SelectMode = selectCode ∷ []
+begunBy (Begun.ColumnsLow m) = selectCode ∷ imageModeNumber m ∷ []
+begunBy (Begun.ColumnsHigh m a) = selectCode ∷ imageModeNumber m ∷ a ∷ []
 
 -- (what is not listed has no code, and is never looked up)
 abbrev pub firstCode : First → ℕ
@@ -98,11 +118,22 @@ otherEscapes =
     ++ map (λ c. Second.Begins (Begun.FirstOf c))
     (Two.Move Move.Absolute ∷ Two.Move Move.Relative ∷ Two.Image Density.Single ∷
     Two.Image Density.Double ∷ Two.Image Density.DoubleSpeed ∷ Two.Image Density.Quadruple ∷ [])
-    ++ (Second.Begins Begun.PageLength ∷ Second.Begins Begun.Advanced ∷ Second.List Tabs.Horizontal ∷
-    Second.List Tabs.Vertical ∷ Second.Reset ∷ [])
+    ++ (Second.Begins Begun.PageLength ∷ Second.Begins Begun.Advanced ∷ Second.Begins Begun.SelectMode ∷
+    Second.List Tabs.Horizontal ∷ Second.List Tabs.Vertical ∷ Second.Reset ∷ [])
 
 unfoldable pub seconds : List Second
 seconds = plainEscapes ++ (argumentEscapes ++ otherEscapes)
+
+-- the modes of ESC *
+abbrev pub selectedNumber : Selected → ℕ
+selectedNumber (Selected.Mode m) = imageModeNumber m
+selectedNumber Selected.Unlisted = 0
+
+unfoldable pub imageModes : List Selected
+imageModes =
+    map Selected.Mode
+    (ImageMode.Single ∷ ImageMode.Double ∷ ImageMode.DoubleSpeed ∷ ImageMode.Quadruple ∷ ImageMode.Crt80 ∷ ImageMode.Crt90 ∷
+    ImageMode.Single24 ∷ ImageMode.Double24 ∷ ImageMode.Crt24 ∷ ImageMode.Triple24 ∷ ImageMode.Hex24 ∷ [])
 
 -- Commands as received
 
@@ -117,6 +148,7 @@ refusedBy (Refused.Byte b) = by b []
 refusedBy (Refused.Escape b) = by b []
 refusedBy (Refused.Advanced b) = byThird advancedCode b
 refusedBy (Refused.CommandMode n) = by advancedCode (modeCode ∷ n ∷ [])
+refusedBy (Refused.ImageMode n) = by selectCode (n ∷ [])
 
 abbrev pub silentBy : Silent → Received
 silentBy (Silent.Escape b) = by b []
@@ -136,6 +168,10 @@ listBy t ListPart.Open = by (secondCode (Second.List t)) []
 listBy t (ListPart.Byte b) = by b []
 listBy t (ListPart.End b) = by b []
 
+abbrev pub openedBy : Opening → (a b : ℕ) → Received
+openedBy (Opening.Named d) a b = by (twoCode (Two.Image d)) (a ∷ b ∷ [])
+openedBy (Opening.Selected m) a b = by selectCode (imageModeNumber m ∷ a ∷ b ∷ [])
+
 abbrev pub received : Command → Received
 received (Command.Letter b) = by b []
 received (Command.Control c b) = by b []
@@ -150,8 +186,8 @@ received (Command.Feed n) = by (oneCode One.Feed) (n ∷ [])
 received (Command.Margin side n) = by (oneCode (One.Margin side)) (n ∷ [])
 received (Command.Page g) = pageBy g
 received (Command.Move m a b) = by (twoCode (Two.Move m)) (a ∷ b ∷ [])
-received (Command.OpenImage d a b) = by (twoCode (Two.Image d)) (a ∷ b ∷ [])
-received (Command.ImageByte d b) = by b []
+received (Command.OpenImage o a b) = openedBy o a b
+received (Command.ImageByte m k b) = by b []
 received (Command.List t part) = listBy t part
 
 abbrev pub speltAs : Received → List ℕ

@@ -119,8 +119,8 @@ needs s t x (Command.Feed n) number =
 needs s t x (Command.Margin side n) number = marginNeeds s side (n * columnOf s)
 needs s t x (Command.Page g) number = (shortestPage upTo pageUnits s g) ∷ (pageUnits s g upTo longestPage) ∷ []
 needs s t x (Command.Move m a b) number = moveNeeds s x m (a + 256 * b)
-needs s t x (Command.OpenImage d a b) number = []
-needs s t x (Command.ImageByte d b) number = (acrossOf x + imageStep d upTo rightOf s) ∷ []
+needs s t x (Command.OpenImage o a b) number = []
+needs s t x (Command.ImageByte m k b) number = (acrossOf x + imageStep m upTo rightOf s) ∷ []
 needs s t x (Command.List k part) number = listNeeds s t k part
 
 abbrev pub needsAt : Printer → Command → ℕ → List Order
@@ -209,6 +209,7 @@ reasonOf (Refused.Byte b) = unlisted
 reasonOf (Refused.Escape b) = unlisted
 reasonOf (Refused.Advanced b) = unlisted
 reasonOf (Refused.CommandMode n) = notAllowed
+reasonOf (Refused.ImageMode n) = notAllowed
 
 -- what the rules do at a command
 abbrev pub decide : Printer → Command → List Event
@@ -227,6 +228,6 @@ decide p (Command.Feed n) =
 decide p (Command.Margin side n) = attempt p (Command.Margin side n) pastLimits ∷ []
 decide p (Command.Page g) = ranged (pageRange g) (Command.Page g) (attempt p (Command.Page g) pastLimits) ∷ []
 decide p (Command.Move m a b) = attempt p (Command.Move m a b) pastLimits ∷ []
-decide p (Command.OpenImage d a b) = done (Command.OpenImage d a b) 0 ∷ []
-decide p (Command.ImageByte d b) = attempt p (Command.ImageByte d b) doesNotFit ∷ []
+decide p (Command.OpenImage o a b) = done (Command.OpenImage o a b) 0 ∷ []
+decide p (Command.ImageByte m k b) = attempt p (Command.ImageByte m k b) doesNotFit ∷ []
 decide p (Command.List k part) = attempt p (Command.List k part) pastLimits ∷ []

@@ -89,7 +89,7 @@ abbrev pub DoesNotFit : Reckoning → (reason : ℕ) → Writing → Type 0
 DoesNotFit r reason silent = Unit
 DoesNotFit r reason (letter b n) =
     (r .force .measures .left + r .across .back ≡ r .across .set + r .across .forth) × Overflows r n × (reason ≡ 4)
-DoesNotFit r reason (imageByte b n) = Overflows r n × (reason ≡ 4)
+DoesNotFit r reason (imageByte b part n) = Overflows r n × (reason ≡ 4)
 DoesNotFit r reason (feed pages) = Unit
 DoesNotFit r reason clear = Unit
 

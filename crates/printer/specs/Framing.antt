@@ -1,11 +1,12 @@
 -- From bytes to commands: what a byte is after what was waited for. Document 01, 'Widths' (what a letter is) and 'Commands'.
-use Prim.Native.Nat.{ℕ, _+_, _*_, _-_}
+use Prim.Native.Nat.{ℕ, suc, _+_, _*_, _-_}
 use mathlib.Core.Bool.{Bool, true, false}
 use mathlib.Core.List.{List}
 use lib.Dec.{leb, eqb}
 use Rattle.printer.specs.Tools.{pick, both, either, within, lookup, coded}
-use Rattle.printer.specs.Codes.{firstCode, secondCode, firsts, seconds, modeCode, statusCode}
-use Rattle.printer.specs.Types.{Begun, Command, Density, First, Frame, ListPart, Look, One, Page, Refused, Second, Silent, Tabs, Two, Waiting}
+use Rattle.printer.specs.Widths.{imageBytes}
+use Rattle.printer.specs.Codes.{firstCode, secondCode, selectedNumber, firsts, seconds, imageModes, modeCode, statusCode}
+use Rattle.printer.specs.Types.{Begun, Command, Density, First, Frame, ImageMode, ListPart, Look, One, Opening, Page, Refused, Second, Selected, Silent, Tabs, Two, Waiting}
 
 -- a letter: 20h to 7Eh, A0h to FFh, and 80h to 9Fh after ESC 6
 unfoldable pub isLetter : Bool → ℕ → Bool
@@ -22,11 +23,17 @@ controls = coded firstCode firsts
 unfoldable pub escapes : List (ℕ × Second)
 escapes = coded secondCode seconds
 
+unfoldable pub selections : List (ℕ × Selected)
+selections = coded selectedNumber imageModes
+
 abbrev pub firstOf : ℕ → First
 firstOf b = lookup controls First.Unlisted b
 
 abbrev pub secondOf : ℕ → Second
 secondOf b = lookup escapes Second.Unlisted b
+
+abbrev pub selectedOf : ℕ → Selected
+selectedOf b = lookup selections Selected.Unlisted b
 
 abbrev pub oneCommand : One → ℕ → Command
 oneCommand (One.Parameter c) n = Command.Parameter c n
@@ -37,15 +44,30 @@ oneCommand (One.Margin side) n = Command.Margin side n
 
 abbrev pub twoCommand : Two → ℕ → ℕ → Command
 twoCommand (Two.Move m) a b = Command.Move m a b
-twoCommand (Two.Image d) a b = Command.OpenImage d a b
+twoCommand (Two.Image d) a b = Command.OpenImage (Opening.Named d) a b
 
--- so many bytes of image data are waited for; none is nothing
-abbrev pub imageWait : Density → ℕ → Waiting
-imageWait d n = pick (eqb n 0) Waiting.Nothing (Waiting.ImageData d n)
+-- ESC K, L, Y, Z are modes 0 to 3
+abbrev pub densityMode : Density → ImageMode
+densityMode Density.Single = ImageMode.Single
+densityMode Density.Double = ImageMode.Double
+densityMode Density.DoubleSpeed = ImageMode.DoubleSpeed
+densityMode Density.Quadruple = ImageMode.Quadruple
+
+abbrev pub openedMode : Opening → ImageMode
+openedMode (Opening.Named d) = densityMode d
+openedMode (Opening.Selected m) = m
+
+-- so many columns of image data are waited for, from the first byte of one; none is nothing
+abbrev pub imageWait : ImageMode → ℕ → Waiting
+imageWait m n = pick (eqb n 0) Waiting.Nothing (Waiting.ImageData m 1 n)
+
+-- after the k-th byte of a column
+abbrev pub afterImageByte : ImageMode → (k columns : ℕ) → Waiting
+afterImageByte m k n = pick (eqb k (imageBytes m)) (imageWait m (n - 1)) (Waiting.ImageData m (suc k) n)
 
 abbrev pub afterTwo : Two → ℕ → Waiting
 afterTwo (Two.Move m) n = Waiting.Nothing
-afterTwo (Two.Image d) n = imageWait d n
+afterTwo (Two.Image d) n = imageWait (densityMode d) n
 
 abbrev pub firstFrame : First → ℕ → Frame
 firstFrame (First.Control c) b = Frame.Whole (Command.Control c b) Waiting.Nothing
@@ -77,6 +99,11 @@ modeFrame n =
     (Frame.Whole (Command.Silent Silent.KeepMode) Waiting.Nothing)
     (Frame.Whole (Command.Refused (Refused.CommandMode n)) Waiting.Nothing)
 
+-- document 02, E4: the mode of ESC *; another is not allowed
+abbrev pub selectedFrame : Selected → ℕ → Frame
+selectedFrame (Selected.Mode m) b = Frame.Waits (Waiting.Arguments (Begun.ColumnsLow m))
+selectedFrame Selected.Unlisted b = Frame.Whole (Command.Refused (Refused.ImageMode b)) Waiting.Nothing
+
 -- an argument; that of ESC C is 0 where inches follow
 abbrev pub continued : Begun → ℕ → Frame
 continued (Begun.One c) b = Frame.Whole (oneCommand c b) Waiting.Nothing
@@ -87,6 +114,9 @@ continued Begun.Advanced b = advancedFrame b
 continued Begun.CommandMode b = modeFrame b
 continued (Begun.FirstOf c) b = Frame.Waits (Waiting.Arguments (Begun.SecondOf c b))
 continued (Begun.SecondOf c a) b = Frame.Whole (twoCommand c a b) (afterTwo c (a + 256 * b))
+continued Begun.SelectMode b = selectedFrame (selectedOf b) b
+continued (Begun.ColumnsLow m) b = Frame.Waits (Waiting.Arguments (Begun.ColumnsHigh m b))
+continued (Begun.ColumnsHigh m a) b = Frame.Whole (Command.OpenImage (Opening.Selected m) a b) (imageWait m (a + 256 * b))
 
 -- a byte that is not above the byte before ends a stop list
 abbrev pub listFrame : Tabs → ℕ → ℕ → Frame
@@ -104,4 +134,4 @@ frame upper Waiting.Nothing b =
 frame upper Waiting.SecondByte b = secondFrame (secondOf b) b
 frame upper (Waiting.Arguments w) b = continued w b
 frame upper (Waiting.StopList t before) b = listFrame t before b
-frame upper (Waiting.ImageData d n) b = Frame.Whole (Command.ImageByte d b) (imageWait d (n - 1))
+frame upper (Waiting.ImageData m k n) b = Frame.Whole (Command.ImageByte m k b) (afterImageByte m k n)

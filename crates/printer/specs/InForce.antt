@@ -1,11 +1,11 @@
 -- The settings, margins and stops in force for the reckoning of demand 3: those that the last start and the commands done since have set.
-use Prim.Native.Nat.{ℕ, _*_, _%_}
+use Prim.Native.Nat.{ℕ, suc, _*_, _%_}
 use mathlib.Core.Bool.{Bool, true, false}
 use mathlib.Core.List.{List, [], _∷_, _++_}
 use lib.Dec.{leb, eqb}
 use Rattle.printer.specs.Tools.{pick, both, either, within}
 use Rattle.printer.specs.Widths.{advance, columnWidth}
-use Rattle.printer.specs.Types.{Density, ListPart, Mode, Page, Parameter, Side, Tabs, Pitch, StartSettings, Width}
+use Rattle.printer.specs.Types.{Density, ImageMode, ListPart, Mode, Opening, Page, Parameter, Side, Tabs, Pitch, StartSettings, Width}
 
 -- margins, page length, skip and line amount
 pub record Measures : Type 0 where
@@ -27,14 +27,19 @@ pub record Kept : Type 0 where
   pub dDown : ℕ
   pub paper : ℕ
 
--- what is kept, what the width of letters and of relative moves depends on, whether 80h to 9Fh print, the units of an image column, the measures,
--- the stops
+-- the image opened last: the units and the bytes of a column, and which byte of one comes next
+pub record Image : Type 0 where
+  pub step : ℕ
+  pub bytes : ℕ
+  pub next : ℕ
+
+-- what is kept, what the width of letters and of relative moves depends on, whether 80h to 9Fh print, the image, the measures, the stops
 pub record InForce : Type 0 where
   pub kept : Kept
   pub width : Width
   pub draft : Bool
   pub upper : Bool
-  pub step : ℕ
+  pub image : Image
   pub measures : Measures
   pub lists : Lists
 
@@ -57,6 +62,13 @@ width pitch spacing wide once reduced proportional =
       proportional = proportional;
     }
 
+-- an image at the first byte of a column
+abbrev image : (step bytes : ℕ) → Image
+image step bytes = record { step = step; bytes = bytes; next = 1 }
+
+abbrev pub noImage : Image
+noImage = image 0 0
+
 abbrev pub keeping : (dAcross dDown paper : ℕ) → Kept
 keeping dAcross dDown paper = record { dAcross = dAcross; dDown = dDown; paper = paper }
 
@@ -75,7 +87,7 @@ atStart k =
       width = width Pitch.Cpi10 0 false false false false;
       draft = false;
       upper = true;
-      step = 0;
+      image = noImage;
       measures = record { left = 0; right = k .paper; page = 39600; skip = 0; line = 600 };
       lists =
           record {
@@ -85,15 +97,15 @@ atStart k =
           };
     }
 
-abbrev inForce : InForce → Width → (draft upper : Bool) → (step : ℕ) → Measures → Lists → InForce
-inForce f w draft upper step m l =
-    record { kept = f .kept; width = w; draft = draft; upper = upper; step = step; measures = m; lists = l }
+abbrev inForce : InForce → Width → (draft upper : Bool) → Image → Measures → Lists → InForce
+inForce f w draft upper g m l =
+    record { kept = f .kept; width = w; draft = draft; upper = upper; image = g; measures = m; lists = l }
 
 abbrev widthInForce : InForce → Width → InForce
-widthInForce f w = inForce f w (f .draft) (f .upper) (f .step) (f .measures) (f .lists)
+widthInForce f w = inForce f w (f .draft) (f .upper) (f .image) (f .measures) (f .lists)
 
 abbrev measuresInForce : InForce → Measures → InForce
-measuresInForce f m = inForce f (f .width) (f .draft) (f .upper) (f .step) m (f .lists)
+measuresInForce f m = inForce f (f .width) (f .draft) (f .upper) (f .image) m (f .lists)
 
 abbrev marginsInForce : InForce → ℕ → ℕ → InForce
 marginsInForce f left right =
@@ -117,7 +129,7 @@ pageInForce f (Page.Inches n) = paperInForce f (3600 * n) 0 (f .measures .line)
 
 abbrev listsInForce : InForce → (columns lines gathered : List ℕ) → InForce
 listsInForce f columns lines gathered =
-    inForce f (f .width) (f .draft) (f .upper) (f .step) (f .measures) (record { columns = columns; lines = lines; gathered = gathered })
+    inForce f (f .width) (f .draft) (f .upper) (f .image) (f .measures) (record { columns = columns; lines = lines; gathered = gathered })
 
 abbrev lineInForce : InForce → ℕ → InForce
 lineInForce f n = paperInForce f (f .measures .page) (f .measures .skip) n
@@ -146,13 +158,13 @@ proportionalInForce f x =
     let w = f .width in widthInForce f (width (w .pitch) (w .spacing) (w .wide) (w .wideonce) (w .reduced) x)
 
 abbrev draftInForce : InForce → Bool → InForce
-draftInForce f x = inForce f (f .width) x (f .upper) (f .step) (f .measures) (f .lists)
+draftInForce f x = inForce f (f .width) x (f .upper) (f .image) (f .measures) (f .lists)
 
 abbrev upperInForce : InForce → Bool → InForce
-upperInForce f x = inForce f (f .width) (f .draft) x (f .step) (f .measures) (f .lists)
+upperInForce f x = inForce f (f .width) (f .draft) x (f .image) (f .measures) (f .lists)
 
-abbrev pub stepInForce : InForce → ℕ → InForce
-stepInForce f x = inForce f (f .width) (f .draft) (f .upper) x (f .measures) (f .lists)
+abbrev pub imageInForce : InForce → Image → InForce
+imageInForce f x = inForce f (f .width) (f .draft) (f .upper) x (f .measures) (f .lists)
 
 -- SO begins or ends
 abbrev pub onceInForce : InForce → Bool → InForce
@@ -201,9 +213,43 @@ listInForce f k (ListPart.Byte b) =
     listsInForce f (f .lists .columns) (f .lists .lines) (f .lists .gathered ++ (ownStop f k b ∷ []))
 listInForce f k (ListPart.End b) = endList f k
 
--- the units of an image column, by the paper's numbers and not by the rules' table: ESC K, L, Y, Z
-abbrev pub stepOfImage : Density → ℕ
-stepOfImage Density.Single = 60
-stepOfImage Density.Double = 30
-stepOfImage Density.DoubleSpeed = 30
-stepOfImage Density.Quadruple = 15
+-- an image opened, by the paper's numbers and not by the rules' tables: ESC K, L, Y, Z
+abbrev pub imageOf : Density → Image
+imageOf Density.Single = image 60 1
+imageOf Density.Double = image 30 1
+imageOf Density.DoubleSpeed = image 30 1
+imageOf Density.Quadruple = image 15 1
+
+-- ESC * m
+abbrev pub imageBy : ImageMode → Image
+imageBy ImageMode.Single = image 60 1
+imageBy ImageMode.Double = image 30 1
+imageBy ImageMode.DoubleSpeed = image 30 1
+imageBy ImageMode.Quadruple = image 15 1
+imageBy ImageMode.Crt80 = image 45 1
+imageBy ImageMode.Crt90 = image 40 1
+imageBy ImageMode.Single24 = image 60 3
+imageBy ImageMode.Double24 = image 30 3
+imageBy ImageMode.Crt24 = image 40 3
+imageBy ImageMode.Triple24 = image 20 3
+imageBy ImageMode.Hex24 = image 10 3
+
+abbrev pub opened : Opening → Image
+opened (Opening.Named d) = imageOf d
+opened (Opening.Selected m) = imageBy m
+
+-- the last byte of a column
+abbrev pub lastByte : Image → Bool
+lastByte g = eqb (g .next) (g .bytes)
+
+-- a byte of it received, printed or passed over
+abbrev pub byteReceived : Image → Image
+byteReceived g = record { step = g .step; bytes = g .bytes; next = pick (lastByte g) 1 (suc (g .next)) }
+
+-- the number that its record bears: 1, 2 or 3 where a column has three bytes
+abbrev pub partNext : Image → ℕ
+partNext g = pick (eqb (g .bytes) 3) (g .next) 0
+
+-- the units that it moves by
+abbrev pub moveNext : Image → ℕ
+moveNext g = pick (lastByte g) (g .step) 0

@@ -1,4 +1,4 @@
--- Document 01, with E1 and E3 of document 02, as definitions.
+-- Document 01, with E1, E3 and E4 of document 02, as definitions.
 
 -- The rules, which must be believed, in the paper's order where they can stand so.
 pub mod Types
@@ -32,6 +32,8 @@ pub mod Cutting
 pub mod Spelling
 -- ESC i
 pub mod Advanced
+-- image columns
+pub mod Columns
 -- demand 3, the last two paragraphs of 'Commands': the reckoning's settings and places, the records that it says are written, the claim
 pub mod InForce
 pub mod Reckoning

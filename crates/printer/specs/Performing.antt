@@ -2,17 +2,17 @@
 use Prim.Native.Nat.{ℕ, zero, suc, _+_, _*_, _-_, _%_}
 use mathlib.Core.Bool.{Bool, true, false}
 use mathlib.Core.List.{List, [], _∷_, _++_}
-use lib.Dec.{ltb}
+use lib.Dec.{ltb, eqb}
 use lib.ListN.{getD}
 use lib.ListN as ListN
 use Rattle.printer.specs.Tools.{pick}
-use Rattle.printer.specs.Widths.{imageStep}
+use Rattle.printer.specs.Widths.{imageStep, imageBytes}
 use Rattle.printer.specs.Settings.{leftOf, rightOf, lineOf, edgeOf, relativeStep, advanceOf, columnOf, acrossOf, downOf, at, heldIn, withWidth, withReduced, withWideOnce, withMargins, withPage, withSkip}
 use Rattle.printer.specs.PowerOn.{powerOnSettings, powerOnStops, noStops}
 use Rattle.printer.specs.Escapes.{modeRow, parameterRow, lookSettings}
 use Rattle.printer.specs.Records.{letterRecord, imageRecord, feedRecord, clearRecord, passedRecord, newTop}
 use Rattle.printer.specs.Codes.{shows}
-use Rattle.printer.specs.Types.{Command, Control, ListPart, Move, Page, Place, Printer, Record, Settings, Side, Stops, TabStops, Tabs}
+use Rattle.printer.specs.Types.{Command, Control, ImageMode, ListPart, Move, Page, Place, Printer, Record, Settings, Side, Stops, TabStops, Tabs}
 
 -- Events
 
@@ -71,6 +71,17 @@ abbrev pub moveTo : Settings → Place → Move → ℕ → ℕ
 moveTo s x Move.Absolute n = leftOf s + 60 * n
 moveTo s x Move.Relative n = relativeMove (acrossOf x) n (relativeStep s)
 
+-- document 02, E4: the place moves after the last byte of an image column
+abbrev pub lastOfColumn : ImageMode → (k : ℕ) → Bool
+lastOfColumn m k = eqb k (imageBytes m)
+
+abbrev pub columnMove : ImageMode → (k : ℕ) → ℕ
+columnMove m k = pick (lastOfColumn m k) (imageStep m) 0
+
+-- the first, second or third byte where a column has three, else 0
+abbrev pub columnPart : ImageMode → (k : ℕ) → ℕ
+columnPart m k = pick (eqb (imageBytes m) 1) 0 k
+
 -- Stops
 
 abbrev pub stopsOf : (columns lines : TabStops) → Bool → (gathered : TabStops) → Stops
@@ -103,8 +114,10 @@ listStops s t k (ListPart.End b) = listEnded t k
 pub data Writing : Type 0 where
   -- no record
   silent : Writing
-  -- TX, and IM: the byte and its advance, an image column's units
-  letter imageByte : (byte advance : ℕ) → Writing
+  -- TX: the byte and its advance
+  letter : (byte advance : ℕ) → Writing
+  -- IM: the byte, which of three it is or 0, and the units of its column
+  imageByte : (byte part advance : ℕ) → Writing
   -- LN: the pages turned, or 255 for a new top
   feed : (pages : ℕ) → Writing
   -- CL
@@ -114,7 +127,7 @@ pub data Writing : Type 0 where
 abbrev pub recordsBy : Settings → (before after : Place) → Writing → List Record
 recordsBy s x y silent = []
 recordsBy s x y (letter b n) = letterRecord s x b n ∷ []
-recordsBy s x y (imageByte b n) = imageRecord s x b n ∷ []
+recordsBy s x y (imageByte b part n) = imageRecord s x b part n ∷ []
 recordsBy s x y (feed pages) = feedRecord (s .setup .resolution) (downOf y) pages ∷ []
 recordsBy s x y clear = clearRecord ∷ []
 
@@ -173,9 +186,9 @@ effect s t x (Command.Margin side a) n =
 -- then down 0, skip 0, LN 255
 effect s t x (Command.Page g) n = leaves (withPage s (pageUnits s g)) (at (acrossOf x) 0) t (feed newTop)
 effect s t x (Command.Move m a b) n = leaves s (at (moveTo s x m (a + 256 * b)) (downOf x)) t silent
-effect s t x (Command.OpenImage d a b) n = leaves s x t silent
-effect s t x (Command.ImageByte d b) n =
-    leaves s (at (acrossOf x + imageStep d) (downOf x)) t (imageByte b (imageStep d))
+effect s t x (Command.OpenImage o a b) n = leaves s x t silent
+effect s t x (Command.ImageByte m k b) n =
+    leaves s (at (acrossOf x + columnMove m k) (downOf x)) t (imageByte b (columnPart m k) (imageStep m))
 effect s t x (Command.List k part) n = leaves s x (listStops s t k part) silent
 
 abbrev pub effectAt : Printer → Command → ℕ → Effect

@@ -8,7 +8,7 @@ use lib.ListN.{getD}
 use Rattle.printer.specs.Tools.{pick}
 use Rattle.printer.specs.Performing.{Event, done, passed, inside, automatic, Writing, silent, letter, imageByte, feed, clear}
 use Rattle.printer.specs.Types.{Command, Control, Mark, Move, StartSettings}
-use Rattle.printer.specs.InForce.{InForce, advanceIn, columnIn, keptBy, atStart, onceInForce, reducedInForce, marginInForce, pageInForce, skipInForce, stepInForce, stepOfImage, modeInForce, parameterInForce, listInForce}
+use Rattle.printer.specs.InForce.{InForce, advanceIn, columnIn, keptBy, atStart, onceInForce, reducedInForce, marginInForce, pageInForce, skipInForce, imageInForce, opened, byteReceived, partNext, moveNext, modeInForce, parameterInForce, listInForce}
 
 -- Places
 
@@ -138,8 +138,9 @@ changeOf f (Command.Margin side a) n =
     let f′ = marginInForce f side (a * columnIn f) in change f′ (sets (f′ .measures .left)) stays clear
 changeOf f (Command.Page g) n = change (pageInForce f g) stays (sets 0) (feed 255)
 changeOf f (Command.Move m a b) n = change f (moveMotion f m a b) stays silent
-changeOf f (Command.OpenImage d a b) n = inForceOnly (stepInForce f (stepOfImage d))
-changeOf f (Command.ImageByte d b) n = change f (moves (f .step) 0) stays (imageByte b (f .step))
+changeOf f (Command.OpenImage o a b) n = inForceOnly (imageInForce f (opened o))
+changeOf f (Command.ImageByte m k b) n =
+    change (imageInForce f (byteReceived (f .image))) (moves (moveNext (f .image)) 0) stays (imageByte b (partNext (f .image)) (f .image .step))
 changeOf f (Command.List k part) n = inForceOnly (listInForce f k part)
 
 -- The reckoning
@@ -154,10 +155,18 @@ pub record Reckoning : Type 0 where
 abbrev pub begun : StartSettings → Reckoning
 begun settings = record { force = atStart (keptBy settings); across = origin; down = origin }
 
+-- what is passed over changes nothing in force; but an image byte was received
+abbrev pub passedInForce : InForce → Writing → InForce
+passedInForce f silent = f
+passedInForce f (letter b n) = f
+passedInForce f (imageByte b part n) = imageInForce f (byteReceived (f .image))
+passedInForce f (feed pages) = f
+passedInForce f clear = f
+
 -- what an event does
 abbrev pub changeBy : InForce → Event → Change
 changeBy f (done c n) = changeOf f c n
-changeBy f (passed c reason) = inForceOnly f
+changeBy f (passed c reason) = inForceOnly (passedInForce f (changeOf f c 0 .writing))
 changeBy f (inside c n) = controlChange f c n
 changeBy f (automatic n) = controlChange f Control.LineFeed n
 
@@ -177,20 +186,22 @@ reckon r e =
 
 -- What is printed
 
--- a letter or an image byte printed: its mark, byte and advance (an image column's units), and the reckoning at that moment
+-- a letter or an image byte printed: its mark, byte, part (which of a column's three bytes, else 0) and advance (an image column's units), and
+-- the reckoning at that moment
 pub record Printed : Type 0 where
   pub mark : Mark
   pub byte : ℕ
+  pub part : ℕ
   pub advance : ℕ
   pub here : Reckoning
 
-abbrev pub printedOf : Mark → (byte advance : ℕ) → Reckoning → Printed
-printedOf m b n r = record { mark = m; byte = b; advance = n; here = r }
+abbrev pub printedOf : Mark → (byte part advance : ℕ) → Reckoning → Printed
+printedOf m b part n r = record { mark = m; byte = b; part = part; advance = n; here = r }
 
 abbrev pub printedBy : Reckoning → Writing → List Printed
 printedBy r silent = []
-printedBy r (letter b n) = printedOf Mark.Tx b n r ∷ []
-printedBy r (imageByte b n) = printedOf Mark.Im b n r ∷ []
+printedBy r (letter b n) = printedOf Mark.Tx b 0 n r ∷ []
+printedBy r (imageByte b part n) = printedOf Mark.Im b part n r ∷ []
 printedBy r (feed pages) = []
 printedBy r clear = []
 

@@ -46,15 +46,15 @@ letterRecord s x b n =
       advance = units n;
     }
 
--- IM: an image byte; column, row, byte, advance
-abbrev pub imageRecord : Settings → Place → (byte advance : ℕ) → Record
-imageRecord s x b n =
+-- IM: an image byte; column, row, byte, advance; document 02, E4: the font says which of three bytes it is
+abbrev pub imageRecord : Settings → Place → (byte part advance : ℕ) → Record
+imageRecord s x b part n =
     record {
       mark = Mark.Im;
       column = columnDots (s .setup .resolution) (acrossOf x);
       row = rowDots (s .setup .resolution) (downOf x);
       byte = b;
-      font = 0;
+      font = part;
       style = 0;
       country = 0;
       advance = units n;

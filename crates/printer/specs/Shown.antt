@@ -11,10 +11,11 @@ use Rattle.printer.specs.Types.{Command, Control, Mark, Record}
 
 -- Records as demand 3 speaks of them
 
--- a TX or IM record: all but font, style and country
+-- a TX or IM record: all but font, style and country; an IM's font is its part
 pub record Placed : Type 0 where
   pub mark : Mark
   pub byte : ℕ
+  pub part : ℕ
   pub column : ℕ
   pub row : ℕ
   pub advance : ℕ
@@ -34,9 +35,9 @@ pub data Shown : Type 0 where
   placed : Placed → Shown
   plain : Plain → Shown
 
-abbrev placedAs : Record → Mark → Placed
-placedAs r m =
-    record { mark = m; byte = r .byte; column = r .column .0; row = r .row .0; advance = r .advance .0 }
+abbrev placedAs : Record → Mark → (part : ℕ) → Placed
+placedAs r m part =
+    record { mark = m; byte = r .byte; part = part; column = r .column .0; row = r .row .0; advance = r .advance .0 }
 
 abbrev plainAs : Record → Mark → Plain
 plainAs r m =
@@ -52,8 +53,8 @@ plainAs r m =
     }
 
 abbrev pub shownRecord : Record → Mark → Shown
-shownRecord r Mark.Tx = placed (placedAs r Mark.Tx)
-shownRecord r Mark.Im = placed (placedAs r Mark.Im)
+shownRecord r Mark.Tx = placed (placedAs r Mark.Tx 0)
+shownRecord r Mark.Im = placed (placedAs r Mark.Im (r .font))
 shownRecord r Mark.Ln = plain (plainAs r Mark.Ln)
 shownRecord r Mark.Cl = plain (plainAs r Mark.Cl)
 shownRecord r Mark.No = plain (plainAs r Mark.No)
@@ -71,6 +72,7 @@ dotted e =
     placed (record {
       mark = e .mark;
       byte = e .byte;
+      part = e .part;
       column = rounded (e .here .force .kept .dAcross) (exact (e .here .across));
       row = rounded (e .here .force .kept .dDown) (exact (e .here .down));
       advance = e .advance;
@@ -92,8 +94,8 @@ only m byte row style =
 -- by the reckoning before, and the place down after: LN bears its row
 abbrev pub shownAs : Reckoning → (down : Axis) → Writing → List Shown
 shownAs r down silent = []
-shownAs r down (letter b n) = dotted (printedOf Mark.Tx b n r) ∷ []
-shownAs r down (imageByte b n) = dotted (printedOf Mark.Im b n r) ∷ []
+shownAs r down (letter b n) = dotted (printedOf Mark.Tx b 0 n r) ∷ []
+shownAs r down (imageByte b part n) = dotted (printedOf Mark.Im b part n r) ∷ []
 shownAs r down (feed pages) = only Mark.Ln pages (rounded (r .force .kept .dDown) (exact down)) 0 ∷ []
 shownAs r down clear = only Mark.Cl 0 0 0 ∷ []
 

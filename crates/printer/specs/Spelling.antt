@@ -7,11 +7,11 @@ use lib.Dec.{eqb}
 use mathlib.Core.Bool.{Bool, true, false}
 use Rattle.printer.specs.Tools.{either, Each}
 use Rattle.printer.specs.Escapes.{modeRow, switchRow}
-use Rattle.printer.specs.Codes.{controlCode, oneCode, twoCode, begunBy, secondCode, spelt}
-use Rattle.printer.specs.Framing.{firstOf, secondOf}
+use Rattle.printer.specs.Codes.{controlCode, oneCode, twoCode, begunBy, secondCode, imageModeNumber, spelt}
+use Rattle.printer.specs.Framing.{firstOf, secondOf, selectedOf}
 use Rattle.printer.specs.Performing.{Event, done, passed, inside, automatic}
 use Rattle.printer.specs.Steps.{stepEvents, stepOf}
-use Rattle.printer.specs.Types.{Begun, Command, Control, First, Mode, One, Printer, Refused, Second, Silent, Switch, Tabs, Two, Waiting}
+use Rattle.printer.specs.Types.{Begun, Command, Control, First, ImageMode, Mode, One, Printer, Refused, Second, Selected, Silent, Switch, Tabs, Two, Waiting}
 
 -- What events spell: commands performed inside another have no bytes of their own.
 
@@ -31,7 +31,7 @@ pending Waiting.Nothing = []
 pending Waiting.SecondByte = []
 pending (Waiting.Arguments w) = begunBy w
 pending (Waiting.StopList t b) = []
-pending (Waiting.ImageData d n) = []
+pending (Waiting.ImageData m k n) = []
 
 -- A single byte is taken for what it is. Whether 80h to 9Fh print is that of the moment.
 
@@ -52,7 +52,11 @@ unfoldable pub listedEscapes : List ℕ
 listedEscapes =
     0x0E ∷ 0x0F ∷ 0x30 ∷ 0x32 ∷ 0x4F ∷ 0x50 ∷ 0x4D ∷ 0x67 ∷ 0x36 ∷ 0x37 ∷ 0x45 ∷ 0x46 ∷ 0x47 ∷ 0x48 ∷ 0x34 ∷ 0x35 ∷
     0x54 ∷ 0x33 ∷ 0x41 ∷ 0x2B ∷ 0x20 ∷ 0x70 ∷ 0x78 ∷ 0x57 ∷ 0x21 ∷ 0x53 ∷ 0x2D ∷ 0x77 ∷ 0x71 ∷ 0x74 ∷ 0x6B ∷ 0x52 ∷
-    0x25 ∷ 0x4E ∷ 0x4A ∷ 0x6C ∷ 0x51 ∷ 0x24 ∷ 0x5C ∷ 0x4B ∷ 0x4C ∷ 0x59 ∷ 0x5A ∷ 0x43 ∷ 0x69 ∷ 0x44 ∷ 0x42 ∷ 0x40 ∷ []
+    0x25 ∷ 0x4E ∷ 0x4A ∷ 0x6C ∷ 0x51 ∷ 0x24 ∷ 0x5C ∷ 0x4B ∷ 0x4C ∷ 0x59 ∷ 0x5A ∷ 0x43 ∷ 0x69 ∷ 0x2A ∷ 0x44 ∷ 0x42 ∷ 0x40 ∷ []
+
+-- the modes of ESC * that are
+unfoldable pub listedImageModes : List ℕ
+listedImageModes = 0 ∷ 1 ∷ 2 ∷ 3 ∷ 4 ∷ 6 ∷ 32 ∷ 33 ∷ 38 ∷ 39 ∷ 40 ∷ []
 
 -- what is passed over in every state is not listed, whichever code it may stand for; or its argument is not 0
 abbrev pub Unlisted : (upper : Bool) → Refused → Type 0
@@ -62,6 +66,7 @@ Unlisted upper (Refused.Byte b) =
 Unlisted upper (Refused.Escape b) = among listedEscapes b ≡ false
 Unlisted upper (Refused.Advanced b) = (b ≡ 0x61 → ⊥) × (b ≡ 0x53 → ⊥)
 Unlisted upper (Refused.CommandMode n) = n ≡ 0 → ⊥
+Unlisted upper (Refused.ImageMode n) = among listedImageModes n ≡ false
 
 abbrev pub Begins : (upper : Bool) → Silent → Type 0
 Begins upper (Silent.Escape b) = StandsFor upper b 0x1B
@@ -98,8 +103,12 @@ pub record EveryListed : Type 0 where
   pub two : (c : Two) → secondOf (twoCode c) ≡ Second.Begins (Begun.FirstOf c)
   pub page : secondOf (secondCode (Second.Begins Begun.PageLength)) ≡ Second.Begins Begun.PageLength
   pub advanced : secondOf (secondCode (Second.Begins Begun.Advanced)) ≡ Second.Begins Begun.Advanced
+  pub select : secondOf (secondCode (Second.Begins Begun.SelectMode)) ≡ Second.Begins Begun.SelectMode
   pub list : (t : Tabs) → secondOf (secondCode (Second.List t)) ≡ Second.List t
   pub reset : secondOf (secondCode Second.Reset) ≡ Second.Reset
   -- and nothing else is
   pub noControl : (b : ℕ) → among listedControls b ≡ false → firstOf b ≡ First.Unlisted
   pub noEscape : (b : ℕ) → among listedEscapes b ≡ false → secondOf b ≡ Second.Unlisted
+  -- so with the modes of ESC *
+  pub imageMode : (m : ImageMode) → selectedOf (imageModeNumber m) ≡ Selected.Mode m
+  pub noImageMode : (b : ℕ) → among listedImageModes b ≡ false → selectedOf b ≡ Selected.Unlisted

@@ -8,6 +8,9 @@ pub use Rattle.printer.specs.declared.commands.Choice.{Choice}
 pub use Rattle.printer.specs.declared.commands.Command.{Command}
 pub use Rattle.printer.specs.declared.commands.Control.{Control}
 pub use Rattle.printer.specs.declared.commands.Density.{Density}
+pub use Rattle.printer.specs.declared.commands.ImageMode.{ImageMode}
+pub use Rattle.printer.specs.declared.commands.Opening.{Opening}
+pub use Rattle.printer.specs.declared.commands.Selected.{Selected}
 pub use Rattle.printer.specs.declared.commands.First.{First}
 pub use Rattle.printer.specs.declared.commands.Frame.{Frame}
 pub use Rattle.printer.specs.declared.commands.ListPart.{ListPart}

@@ -2,7 +2,7 @@
 use Prim.Native.Nat.{ℕ, _+_, _*_}
 use mathlib.Core.Bool.{Bool, true, false}
 use Rattle.printer.specs.Tools.{pick, either}
-use Rattle.printer.specs.Types.{Density, Pitch, Width}
+use Rattle.printer.specs.Types.{ImageMode, Pitch, Width}
 
 -- the base: pitch, reduced, proportional
 abbrev pub base : Pitch → Bool → Bool → ℕ
@@ -28,9 +28,29 @@ advance w =
 abbrev pub columnWidth : Width → ℕ
 columnWidth w = pick (w .proportional) 360 (advance w)
 
--- the units of an image column: ESC K, L, Y, Z
-abbrev pub imageStep : Density → ℕ
-imageStep Density.Single = 60
-imageStep Density.Double = 30
-imageStep Density.DoubleSpeed = 30
-imageStep Density.Quadruple = 15
+-- document 02, E4: the units of an image column, and its bytes
+abbrev pub imageStep : ImageMode → ℕ
+imageStep ImageMode.Single = 60
+imageStep ImageMode.Double = 30
+imageStep ImageMode.DoubleSpeed = 30
+imageStep ImageMode.Quadruple = 15
+imageStep ImageMode.Crt80 = 45
+imageStep ImageMode.Crt90 = 40
+imageStep ImageMode.Single24 = 60
+imageStep ImageMode.Double24 = 30
+imageStep ImageMode.Crt24 = 40
+imageStep ImageMode.Triple24 = 20
+imageStep ImageMode.Hex24 = 10
+
+abbrev pub imageBytes : ImageMode → ℕ
+imageBytes ImageMode.Single = 1
+imageBytes ImageMode.Double = 1
+imageBytes ImageMode.DoubleSpeed = 1
+imageBytes ImageMode.Quadruple = 1
+imageBytes ImageMode.Crt80 = 1
+imageBytes ImageMode.Crt90 = 1
+imageBytes ImageMode.Single24 = 3
+imageBytes ImageMode.Double24 = 3
+imageBytes ImageMode.Crt24 = 3
+imageBytes ImageMode.Triple24 = 3
+imageBytes ImageMode.Hex24 = 3

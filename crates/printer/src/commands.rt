@@ -1,5 +1,5 @@
 // The commands as received, and what the reader waits for between them.
-// `Frame`, `Command`, `Look`, `Refused`, `Silent` and `ListPart` are words of the definitions: no code builds them.
+// `Frame`, `Command`, `Look`, `Refused`, `Silent`, `ListPart` and `Opening` are words of the definitions: no code builds them.
 use crate::settings::Pitch;
 
 // The control bytes that are commands.
@@ -63,12 +63,39 @@ pub enum Look {
     Choice(Choice, u8),
 }
 
-// The image commands: ESC K L Y Z.
+// The image commands that name no mode: ESC K L Y Z.
 pub enum Density {
     Single,
     Double,
     DoubleSpeed,
     Quadruple,
+}
+
+// The modes of images: 0 to 4 and 6, of eight dots a column, and 32, 33, 38, 39 and 40, of twenty-four.
+pub enum ImageMode {
+    Single,
+    Double,
+    DoubleSpeed,
+    Quadruple,
+    Crt80,
+    Crt90,
+    Single24,
+    Double24,
+    Crt24,
+    Triple24,
+    Hex24,
+}
+
+// The mode that ESC * selects.
+pub enum Selected {
+    Mode(ImageMode),
+    Unlisted,
+}
+
+// What opens an image: ESC K, L, Y, Z; or ESC * and a mode.
+pub enum Opening {
+    Named(Density),
+    Selected(ImageMode),
 }
 
 // The two kinds of stop lists: ESC D, ESC B.
@@ -112,6 +139,8 @@ pub enum Refused {
     Advanced(u8),
     // ESC i a n, with n other than 0.
     CommandMode(u8),
+    // ESC * m, with a mode that is not listed.
+    ImageMode(u8),
 }
 
 // What is done and changes nothing.
@@ -148,10 +177,10 @@ pub enum Command {
     Page(Page),
     // ESC $ a b, ESC \ a b.
     Move(Move, u8, u8),
-    // ESC K, L, Y, Z a b.
-    OpenImage(Density, u8, u8),
-    // A byte of image data.
-    ImageByte(Density, u8),
+    // ESC K, L, Y, Z a b, ESC * m a b.
+    OpenImage(Opening, u8, u8),
+    // A byte of image data: which of its column's bytes it is, from 1, and the byte.
+    ImageByte(ImageMode, u8, u8),
     // ESC D, ESC B, and the bytes of their lists.
     List(Tabs, ListPart),
 }
@@ -187,6 +216,11 @@ pub enum Begun {
     FirstOf(Two),
     // The second of two, after the first.
     SecondOf(Two, u8),
+    // The mode of ESC *.
+    SelectMode,
+    // The first byte of its number of columns, and the second, after the first.
+    ColumnsLow(ImageMode),
+    ColumnsHigh(ImageMode, u8),
 }
 
 // What the reader is still waiting for.
@@ -198,8 +232,8 @@ pub enum Waiting {
     Arguments(Begun),
     // A byte of a stop list, after the byte before (0 at its beginning).
     StopList(Tabs, u8),
-    // So many bytes of image data.
-    ImageData(Density, u16),
+    // Image data: which byte of a column, from 1, and how many columns, that one included.
+    ImageData(ImageMode, u8, u16),
 }
 
 // What a control byte is.

@@ -31,18 +31,18 @@ module _ (m : List ℕ) (long : length m ≡ registerCount) where
       let d : drop (from + 33) m ≡ drop 32 (drop (suc from) m) = rw (← e) (sym (drop-drop 32 (suc from) m)) in
       rw (d, take-append-drop 32 (drop (suc from) m)) (sym (drop-cons m from 0 h))
 
-  pub lists-again : listWords (listIn 39 m) (listWords (listIn 72 m) (listWords (listIn 105 m) [])) ≡ drop 39 m
+  pub lists-again : listWords (listIn 41 m) (listWords (listIn 74 m) (listWords (listIn 107 m) [])) ≡ drop 41 m
   lists-again =
-      let z : [] ≡ drop 138 m = sym (drop-of-length-le m {i = 138} (omega arith)) in
-      rw z (rw (list-again 105 (omega arith), list-again 72 (omega arith)) (list-again 39 (omega arith)))
+      let z : [] ≡ drop 140 m = sym (drop-of-length-le m {i = 140} (omega arith)) in
+      rw z (rw (list-again 107 (omega arith), list-again 74 (omega arith)) (list-again 41 (omega arith)))
 
-  lists-same : sameList (drop 39 m) (listWords (listIn 39 m) (listWords (listIn 72 m) (listWords (listIn 105 m) []))) ≡ true
-  lists-same = rw lists-again (same-itself (drop 39 m))
+  lists-same : sameList (drop 41 m) (listWords (listIn 41 m) (listWords (listIn 74 m) (listWords (listIn 107 m) []))) ≡ true
+  lists-same = rw lists-again (same-itself (drop 41 m))
 
   pub same-again : sameList m (registersOf (printerIn m)) ≡ sameRegisters m (pendingOf (waitingOf (pendingIn m)))
   unfolding sameList firsts printerIn laid settingsIn stopsIn sameRegisters
   same-again =
-      ap (λ (l : List ℕ). sameList l (registersOf (printerIn m))) (listed 39 m (omega arith))
+      ap (λ (l : List ℕ). sameList l (registersOf (printerIn m))) (listed 41 m (omega arith))
       ∙ simp (lists-same, itself, and-assoc, and-true)
 
   pub accepted-again : acceptedIn m ≡ (sameRegisters m (pendingOf (waitingOf (pendingIn m))) && accepted (printerIn m))

@@ -14,11 +14,11 @@ use Rattle.registers.proofs.Laws.{measured-laid}
 use Rattle.registers.proofs.Laying.{firsts, listed}
 
 abbrev started : Setup → List ℕ → List ℕ
-started t m = stores columnCells (stores (powerOnCells (t .width)) (stores (setupCells t) (take 4 m ++ replicate 134 0)))
+started t m = stores columnCells (stores (powerOnCells (t .width)) (stores (setupCells t) (take 6 m ++ replicate 134 0)))
 
-pub power-on-words : (t : Setup) (m : List ℕ) → 4 ≤ length m → measured (started t m) ≡ words (staleIn m) (powerOn t)
+pub power-on-words : (t : Setup) (m : List ℕ) → 6 ≤ length m → measured (started t m) ≡ words (staleIn m) (powerOn t)
 unfolding firsts laid styleOf
 power-on-words t m h =
     let none : Derived = record { style = 0; advance = 0; column = 0 } in
-    let e : started t m ≡ laid (staleIn m) none (powerOn t) = ap (started t) (listed 4 m h) in
+    let e : started t m ≡ laid (staleIn m) none (powerOn t) = ap (started t) (listed 6 m h) in
     ap measured e ∙ measured-laid (staleIn m) none (powerOn t) (omega arith)

@@ -19,6 +19,7 @@ use Rattle.printer.specs.declared.state.Printer.{Printer}
 use Rattle.printer.specs.declared.stops.Stops.{Stops}
 use Rattle.printer.proofs.Accepting.{accepted-fact}
 use Rattle.printer.proofs.Choices.{either-elim}
+use Rattle.printer.proofs.Modes.{bytes-within}
 use Rattle.registers.specs.declared.pending.Pending.{Pending}
 use Rattle.registers.specs.Layout.{Derived, registerCount, laid, words, derivedOf}
 use Rattle.registers.specs.Groups.{placeIn, settingsIn, stopsIn}
@@ -115,7 +116,7 @@ image-few p Waiting.Nothing h = tt
 image-few p Waiting.SecondByte h = tt
 image-few p (Waiting.Arguments w) h = tt
 image-few p (Waiting.StopList k b) h = tt
-image-few p (Waiting.ImageData d n) h = h .1 .0
+image-few p (Waiting.ImageData m k n) h = (omega (arith, h .1 .1 .1 .0, bytes-within m .1), h .1 .0)
 
 module _ {p : Printer} (t : Typed p) (a : Accepted p) where
   pub small : Small (p .settings)
@@ -153,9 +154,9 @@ module _ (m : List ℕ) (long : length m ≡ registerCount) where
         font = omega arith;
         stops =
             record {
-              columns = part-long 40 32 m (omega arith);
-              lines = part-long 73 32 m (omega arith);
-              gathered = part-long 106 32 m (omega arith);
+              columns = part-long 42 32 m (omega arith);
+              lines = part-long 75 32 m (omega arith);
+              gathered = part-long 108 32 m (omega arith);
             };
         waiting = waiting-typed m;
       }

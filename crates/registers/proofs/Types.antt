@@ -20,7 +20,7 @@ image Waiting.Nothing h = tt
 image Waiting.SecondByte h = tt
 image (Waiting.Arguments w) h = tt
 image (Waiting.StopList k b) h = tt
-image (Waiting.ImageData d n) h = short (h .1 .1 .1 .1 .1 .0)
+image (Waiting.ImageData m k n) h = (byte (h .1 .1 .1 .1 .1 .0), short (h .1 .1 .1 .1 .1 .1 .0))
 
 pub plain-value : (p : Printer) {vs : List Val} → Is P.the-row p vs → Plain p
 plain-value p h =

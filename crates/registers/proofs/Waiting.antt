@@ -10,23 +10,23 @@ use types.Run.{OneOf, miss}
 use borrow.Author.Tests.{eqb-true}
 use Rattle.printer.specs.Tools.{Bytes, Each, lookup, coded}
 use Rattle.printer.specs.Accepted.{waitingTyped}
-use Rattle.printer.specs.Codes.{twoCode, begunBy, secondCode, seconds, plainEscapes, argumentEscapes, otherEscapes}
+use Rattle.printer.specs.Codes.{begunBy, secondCode, seconds, plainEscapes, argumentEscapes, otherEscapes}
 use Rattle.printer.specs.Escapes.{modes, looks, parameters, choices}
-use Rattle.printer.specs.Framing.{escapes, secondFrame, continued, frame}
+use Rattle.printer.specs.Framing.{escapes, selectedOf, secondFrame, continued, frame}
 use Rattle.printer.specs.Steps.{nextIn}
 use Rattle.printer.specs.declared.commands.Begun.{Begun}
-use Rattle.printer.specs.declared.commands.Density.{Density}
 use Rattle.printer.specs.declared.commands.Frame.{Frame}
 use Rattle.printer.specs.declared.commands.Second.{Second}
+use Rattle.printer.specs.declared.commands.Selected.{Selected}
 use Rattle.printer.specs.declared.commands.Tabs.{Tabs}
-use Rattle.printer.specs.declared.commands.Two.{Two}
 use Rattle.printer.specs.declared.commands.Waiting.{Waiting}
 use Rattle.printer.proofs.commands.Begun.{the-type}
 use Rattle.printer.proofs.Choices.{pick-elim, bytes-append}
 use Rattle.printer.proofs.Frames.{Framed, begins as framed-begins, single, opensList, opensImage, rests, afterEscape, framed-second, framed-argument}
-use Rattle.printer.proofs.Listed.{every-listed, two-byte}
+use Rattle.printer.proofs.Listed.{every-listed}
+use Rattle.printer.proofs.Modes.{number-byte}
 use Rattle.registers.specs.declared.pending.Pending.{Pending}
-use Rattle.registers.specs.State.{pending, pendingBytes, pendingOf, begins, waitsIn, argued, resumed, images, imaged, kinds, waitingOf, pendingIn, imageTyped}
+use Rattle.registers.specs.State.{pending, pendingBytes, pendingOf, begins, waitsIn, argued, resumed, imagedBy, kinds, waitingOf, pendingIn, imageTyped}
 use Rattle.registers.proofs.Laws.{byte-back}
 
 -- what a second byte begins is found in the rest of the table: the escapes before it begin nothing
@@ -54,7 +54,7 @@ begins-found b = left-out plainEscapes (argumentEscapes ++ otherEscapes) b refl
 
 -- nothing follows the argument of these places, by their numbers among all
 abbrev lasts : List ℕ
-lasts = 0 ∷ 2 ∷ 4 ∷ 6 ∷ []
+lasts = 0 ∷ 2 ∷ 4 ∷ 6 ∷ 9 ∷ []
 
 pub whole : (w : Begun) (a : ℕ) → OneOf lasts (tagOf the-type w) → Waiting.Nothing ≡ argued w a
 whole (Begun.One c) a k = refl
@@ -64,6 +64,9 @@ whole Begun.Advanced a k = absurd (miss lasts _ tt k)
 whole Begun.CommandMode a k = pick-elim (λ (f : Frame). Waiting.Nothing ≡ waitsIn f) (eqb a 0) (λ _. refl) (λ _. refl)
 whole (Begun.FirstOf c) a k = absurd (miss lasts _ tt k)
 whole (Begun.SecondOf c b) a k = refl
+whole Begun.SelectMode a k = absurd (miss lasts _ tt k)
+whole (Begun.ColumnsLow m) a k = absurd (miss lasts _ tt k)
+whole (Begun.ColumnsHigh m b) a k = refl
 
 -- reading its numbers gives it back
 
@@ -76,13 +79,9 @@ begun-back Begun.Advanced = rw (every-listed .advanced)
 begun-back Begun.CommandMode = rw (every-listed .advanced)
 begun-back (Begun.FirstOf c) = rw (every-listed .two c)
 begun-back (Begun.SecondOf c a) = rw (every-listed .two c)
-
-image-back : (d : Density) (n : ℕ) → imaged (twoCode (Two.Image d)) n ≡ Waiting.ImageData d n
-unfolding lookup images
-image-back Density.Single n = refl
-image-back Density.Double n = refl
-image-back Density.DoubleSpeed n = refl
-image-back Density.Quadruple n = refl
+begun-back Begun.SelectMode = rw (every-listed .select)
+begun-back (Begun.ColumnsLow m) = rw (every-listed .select, every-listed .imageMode m)
+begun-back (Begun.ColumnsHigh m a) = rw (every-listed .select, every-listed .imageMode m)
 
 pub waiting-back : (w : Waiting) → waitingOf (pendingOf w) ≡ w
 unfolding lookup kinds frame
@@ -90,17 +89,18 @@ waiting-back Waiting.Nothing = refl
 waiting-back Waiting.SecondByte = refl
 waiting-back (Waiting.Arguments w) = begun-back w
 waiting-back (Waiting.StopList t b) = rw (every-listed .list t)
-waiting-back (Waiting.ImageData d n) = image-back d n
+waiting-back (Waiting.ImageData m k n) = rw (every-listed .imageMode m)
 
 -- its numbers are such as their types hold
 
 abbrev narrow : Pending → Pending
-narrow v = pending (v .kind) (v .command % 256) (v .argument % 256) (v .columns % 65536)
+narrow v = pending (v .kind) (v .command % 256) (v .argument % 256) (v .mode % 256) (v .part % 256) (v .columns % 65536)
 
 bytes-narrow : (l : List ℕ) → Bytes l → narrow (pendingBytes l) ≡ pendingBytes l
 bytes-narrow [] h = refl
 bytes-narrow (b ∷ []) h = rw (byte-back (h .0))
-bytes-narrow (b ∷ a ∷ l) h = rw (byte-back (h .0), byte-back (h .1 .0))
+bytes-narrow (b ∷ a ∷ []) h = rw (byte-back (h .0), byte-back (h .1 .0))
+bytes-narrow (b ∷ m ∷ a ∷ l) h = rw (byte-back (h .0), byte-back (h .1 .0), byte-back (h .1 .1 .0))
 
 pub pending-narrow : (w : Waiting) → waitingTyped w → imageTyped w → narrow (pendingOf w) ≡ pendingOf w
 pending-narrow Waiting.Nothing h k = refl
@@ -108,9 +108,9 @@ pending-narrow Waiting.SecondByte h k = refl
 pending-narrow (Waiting.Arguments w) h k = bytes-narrow (begunBy w) h
 pending-narrow (Waiting.StopList Tabs.Horizontal b) h k = rw (byte-back h)
 pending-narrow (Waiting.StopList Tabs.Vertical b) h k = rw (byte-back h)
-pending-narrow (Waiting.ImageData d n) h k =
-    let e : n % 65536 ≡ n = omega arith in
-    rw (e, byte-back (two-byte (Two.Image d)))
+pending-narrow (Waiting.ImageData m i n) h k =
+    let e : n % 65536 ≡ n = omega (arith, k .1) in
+    rw (e, byte-back (number-byte m), byte-back (k .0))
 
 -- what numbers are read as has what its types say
 
@@ -122,7 +122,7 @@ typed-framed l (Frame.Waits w) h (framed-begins e) = as-bytes e h
 typed-framed l (Frame.Whole c w) h (single e k n i rests) = tt
 typed-framed l (Frame.Whole c w) h (single e k n i afterEscape) = tt
 typed-framed l (Frame.Whole c w) h (opensList e) = omega arith
-typed-framed l (Frame.Whole c w) h (opensImage {d} {a} {b} e) =
+typed-framed l (Frame.Whole c w) h (opensImage {o} {a} {b} e) =
     pick-elim waitingTyped (eqb (a + 256 * b) 0) (λ _. tt) (λ _. tt)
 
 waits-typed : (f : Frame) → waitingTyped (nextIn f) → waitingTyped (waitsIn f)
@@ -139,7 +139,7 @@ typed-resumed Waiting.Nothing b h t = tt
 typed-resumed Waiting.SecondByte b h t = tt
 typed-resumed (Waiting.Arguments w) b h t = typed-argued w b h t
 typed-resumed (Waiting.StopList k before) b h t = h
-typed-resumed (Waiting.ImageData d n) b h t = tt
+typed-resumed (Waiting.ImageData m k n) b h t = tt
 
 -- what a table tells has what each of its entries has
 told : (l : List (ℕ × Waiting)) (d : Waiting) (b : ℕ) → waitingTyped d → Each (λ (e : ℕ × Waiting). waitingTyped (e .1)) l
@@ -148,9 +148,9 @@ unfolding lookup
 told [] d b h k = h
 told (e ∷ l) d b h k = pick-elim waitingTyped (eqb b (e .0)) (λ _. k .0) (λ _. told l d b h (k .1))
 
-typed-imaged : (code n : ℕ) → waitingTyped (imaged code n)
-unfolding images
-typed-imaged code n = told (images n) Waiting.Nothing code tt (tt, (tt, (tt, (tt, tt))))
+typed-imaged : (x : Selected) (k n : ℕ) → waitingTyped (imagedBy x k n)
+typed-imaged (Selected.Mode m) k n = tt
+typed-imaged Selected.Unlisted k n = tt
 
 pub waiting-typed : (m : List ℕ) → waitingTyped (waitingOf (pendingIn m))
 unfolding kinds frame
@@ -159,4 +159,7 @@ waiting-typed m =
     let begun = begins (v .command) in
     let t : waitingTyped begun = typed-framed _ _ (omega arith, tt) (framed-second false (v .command)) in
     let after : waitingTyped (resumed begun (v .argument)) = typed-resumed begun (v .argument) (omega arith) t in
-    told (kinds begun v) Waiting.Nothing (v .kind) tt (tt, (tt, (t, (after, (after, (typed-imaged (v .command) (v .columns), tt))))))
+    let selected : waitingTyped (resumed begun (v .mode)) = typed-resumed begun (v .mode) (omega arith) t in
+    let again : waitingTyped (resumed (resumed begun (v .mode)) (v .argument)) = typed-resumed (resumed begun (v .mode)) (v .argument) (omega arith) selected in
+    told (kinds begun v) Waiting.Nothing (v .kind) tt
+    (tt, (tt, (t, (after, (after, (typed-imaged (selectedOf (v .mode)) (v .part) (v .columns), (again, tt)))))))

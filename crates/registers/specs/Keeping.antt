@@ -11,18 +11,18 @@ use Rattle.registers.specs.Groups.{widthIn}
 -- the settings of one register that show in the style bits: the register, and the value of the lowest bit
 
 abbrev pub registerOf : Shown → ℕ
-registerOf Shown.Bold = 21
-registerOf Shown.DoubleStrike = 22
-registerOf Shown.Italic = 23
-registerOf Shown.Underline = 24
-registerOf Shown.Superscript = 25
-registerOf Shown.Subscript = 26
-registerOf Shown.DoubleHeight = 30
-registerOf Shown.Outline = 29
-registerOf Shown.Proportional = 20
-registerOf Shown.Reduced = 19
-registerOf Shown.ItalicTable = 31
-registerOf Shown.Download = 32
+registerOf Shown.Bold = 23
+registerOf Shown.DoubleStrike = 24
+registerOf Shown.Italic = 25
+registerOf Shown.Underline = 26
+registerOf Shown.Superscript = 27
+registerOf Shown.Subscript = 28
+registerOf Shown.DoubleHeight = 32
+registerOf Shown.Outline = 31
+registerOf Shown.Proportional = 22
+registerOf Shown.Reduced = 21
+registerOf Shown.ItalicTable = 33
+registerOf Shown.Download = 34
 
 abbrev pub weightOf : Shown → ℕ
 weightOf Shown.Bold = 0x1
@@ -48,7 +48,7 @@ showsDouble wide once = bitOr wide once % 2 * 0x40
 
 -- the style bits less what a setting showed, and what it shows now
 abbrev pub restyled : List ℕ → (showed shown : ℕ) → List ℕ
-restyled m showed shown = set m 35 ((getD m 35 0 % 0x10000 + 0x10000 - showed + shown) % 0x10000)
+restyled m showed shown = set m 37 ((getD m 37 0 % 0x10000 + 0x10000 - showed + shown) % 0x10000)
 
 -- such a setting stored
 unfoldable pub shownStored : List ℕ → Shown → ℕ → List ℕ
@@ -57,11 +57,11 @@ shownStored m k n = restyled (set m (registerOf k) n) (shows k (getD m (register
 -- double width
 unfoldable pub doubleStored : List ℕ → (wide once : ℕ) → List ℕ
 doubleStored m wide once =
-    restyled (set (set m 17 wide) 18 once) (showsDouble (getD m 17 0) (getD m 18 0)) (showsDouble wide once)
+    restyled (set (set m 19 wide) 20 once) (showsDouble (getD m 19 0) (getD m 20 0)) (showsDouble wide once)
 
 -- the advance and the column width of a width
 abbrev pub widthsStored : Width → List ℕ → List ℕ
-widthsStored w m = set (set m 36 (advance w)) 37 (columnWidth w)
+widthsStored w m = set (set m 38 (advance w)) 39 (columnWidth w)
 
 -- those of the width in the registers
 unfoldable pub measured : List ℕ → List ℕ

@@ -16,7 +16,7 @@ use Rattle.registers.specs.declared.pending.Pending.{Pending}
 
 -- how many there are
 abbrev pub registerCount : ℕ
-registerCount = 138
+registerCount = 140
 
 abbrev pub flag : Bool → ℕ
 flag on = pick on 1 0
@@ -35,15 +35,15 @@ pub record Derived : Type 0 where
 abbrev pub derivedOf : Settings → Derived
 derivedOf s = record { style = styleOf s; advance = advanceOf s; column = columnOf s }
 
--- 0 to 3
+-- 0 to 5
 abbrev pub pendingWords : Pending → List ℕ → List ℕ
-pendingWords v l = v .kind ∷ v .command ∷ v .argument ∷ v .columns ∷ l
+pendingWords v l = v .kind ∷ v .command ∷ v .argument ∷ v .mode ∷ v .part ∷ v .columns ∷ l
 
--- 4 and 5
+-- 6 and 7
 abbrev pub placeWords : Place → List ℕ → List ℕ
 placeWords x l = acrossOf x ∷ downOf x ∷ l
 
--- 6 to 34
+-- 8 to 36
 abbrev pub settingsWords : Settings → List ℕ → List ℕ
 settingsWords s l =
     leftOf s ∷ rightOf s ∷ pageOf s ∷ skipOf s ∷ lineOf s ∷
@@ -57,7 +57,7 @@ settingsWords s l =
     flag (s .draft) ∷ flag (s .upperprints) ∷
     l
 
--- 35 to 37
+-- 37 to 39
 abbrev pub derivedWords : Derived → List ℕ → List ℕ
 derivedWords d l = d .style ∷ d .advance ∷ d .column ∷ l
 
@@ -65,7 +65,7 @@ derivedWords d l = d .style ∷ d .advance ∷ d .column ∷ l
 abbrev pub listWords : TabStops → List ℕ → List ℕ
 listWords t l = t .count ∷ (t .stops ++ l)
 
--- 38; and the lists from 39, 72 and 105
+-- 40; and the lists from 41, 74 and 107
 abbrev pub stopsWords : Stops → List ℕ → List ℕ
 stopsWords t l = flag (t .lineset) ∷ listWords (t .columns) (listWords (t .lines) (listWords (t .gathered) l))
 

@@ -23,39 +23,40 @@ isPitch n = eqb n (pitchNumber (pitchOf n))
 
 abbrev pub samePending : List ℕ → Pending → Bool
 samePending m v =
-    eqb (getD m 0 0) (v .kind) && (eqb (getD m 1 0) (v .command) && (eqb (getD m 2 0) (v .argument) && eqb (getD m 3 0) (v .columns)))
+    eqb (getD m 0 0) (v .kind) && (eqb (getD m 1 0) (v .command) && (eqb (getD m 2 0) (v .argument) && (eqb (getD m 3 0) (v .mode)
+    && (eqb (getD m 4 0) (v .part) && eqb (getD m 5 0) (v .columns)))))
 
 abbrev pub sameSetup : List ℕ → Bool
 sameSetup m =
-    eqb (getD m 11 0) (perInchAcross (resolutionOf (getD m 11 0)))
-    && (eqb (getD m 12 0) (perInchDown (resolutionOf (getD m 11 0))) && isFlag (getD m 13 0))
+    eqb (getD m 13 0) (perInchAcross (resolutionOf (getD m 13 0)))
+    && (eqb (getD m 14 0) (perInchDown (resolutionOf (getD m 13 0))) && isFlag (getD m 15 0))
 
 abbrev pub sameWidth : List ℕ → Bool
 sameWidth m =
-    isPitch (getD m 15 0) && (isByte (getD m 16 0) && (isFlag (getD m 17 0) && (isFlag (getD m 18 0) && (isFlag (getD m 19 0)
-    && isFlag (getD m 20 0)))))
+    isPitch (getD m 17 0) && (isByte (getD m 18 0) && (isFlag (getD m 19 0) && (isFlag (getD m 20 0) && (isFlag (getD m 21 0)
+    && isFlag (getD m 22 0)))))
 
 abbrev pub sameEmphasis : List ℕ → Bool
 sameEmphasis m =
-    isFlag (getD m 21 0) && (isFlag (getD m 22 0) && (isFlag (getD m 23 0) && (isFlag (getD m 24 0) && (isFlag (getD m 25 0)
-    && isFlag (getD m 26 0)))))
+    isFlag (getD m 23 0) && (isFlag (getD m 24 0) && (isFlag (getD m 25 0) && (isFlag (getD m 26 0) && (isFlag (getD m 27 0)
+    && isFlag (getD m 28 0)))))
 
 abbrev pub sameFace : List ℕ → Bool
 sameFace m =
-    isByte (getD m 27 0) && (isByte (getD m 28 0) && (isByte (getD m 29 0) && (isFlag (getD m 30 0) && (isFlag (getD m 31 0)
-    && isFlag (getD m 32 0)))))
+    isByte (getD m 29 0) && (isByte (getD m 30 0) && (isByte (getD m 31 0) && (isFlag (getD m 32 0) && (isFlag (getD m 33 0)
+    && isFlag (getD m 34 0)))))
 
 -- draft, and whether 80h to 9Fh print
 abbrev pub samePrinting : List ℕ → Bool
-samePrinting m = isFlag (getD m 33 0) && isFlag (getD m 34 0)
+samePrinting m = isFlag (getD m 35 0) && isFlag (getD m 36 0)
 
 abbrev pub sameDerived : List ℕ → Bool
 sameDerived m =
-    eqb (getD m 35 0) (styleOf (settingsIn m))
-    && (eqb (getD m 36 0) (advance (widthIn m)) && eqb (getD m 37 0) (columnWidth (widthIn m)))
+    eqb (getD m 37 0) (styleOf (settingsIn m))
+    && (eqb (getD m 38 0) (advance (widthIn m)) && eqb (getD m 39 0) (columnWidth (widthIn m)))
 
 -- all of them, with the numbers of what is waited for
 unfoldable pub sameRegisters : List ℕ → Pending → Bool
 sameRegisters m v =
     samePending m v && (sameSetup m && (sameWidth m && (sameEmphasis m && (sameFace m && (samePrinting m && (sameDerived m
-    && isFlag (getD m 38 0)))))))
+    && isFlag (getD m 40 0)))))))

@@ -7,15 +7,14 @@ use lib.Dec.{eqb}
 use lib.ListN.{getD}
 use Rattle.printer.specs.Accepted.{Typed}
 use Rattle.printer.specs.Bounds.{accepted}
-use Rattle.printer.specs.Codes.{twoCode, secondCode, begunBy}
-use Rattle.printer.specs.Framing.{continued, frame}
+use Rattle.printer.specs.Codes.{secondCode, imageModeNumber, begunBy}
+use Rattle.printer.specs.Framing.{selectedOf, continued, frame}
 use Rattle.printer.specs.Steps.{nextIn}
 use Rattle.printer.specs.Tools.{lookup}
 use Rattle.printer.specs.declared.commands.Begun.{Begun}
-use Rattle.printer.specs.declared.commands.Density.{Density}
 use Rattle.printer.specs.declared.commands.Frame.{Frame}
 use Rattle.printer.specs.declared.commands.Second.{Second}
-use Rattle.printer.specs.declared.commands.Two.{Two}
+use Rattle.printer.specs.declared.commands.Selected.{Selected}
 use Rattle.printer.specs.declared.commands.Waiting.{Waiting}
 use Rattle.printer.specs.declared.state.Printer.{Printer}
 use Rattle.registers.specs.declared.pending.Pending.{Pending}
@@ -23,24 +22,28 @@ use Rattle.registers.specs.Layout.{words}
 use Rattle.registers.specs.Groups.{placeIn, settingsIn, stopsIn}
 use Rattle.registers.specs.Held.{Small}
 
-abbrev pub pending : (kind command argument columns : ℕ) → Pending
-pending kind command argument columns =
-    record { kind = kind; command = command; argument = argument; columns = columns }
+abbrev pub pending : (kind command argument mode part columns : ℕ) → Pending
+pending kind command argument mode part columns =
+    record { kind = kind; command = command; argument = argument; mode = mode; part = part; columns = columns }
 
--- the kinds, 0 to 5; what a kind does not use is 0
+-- the kinds, 0 to 6; what a kind does not use is 0
 
--- an escape by its bytes so far
+abbrev pub escaped : (kind command argument : ℕ) → Pending
+escaped kind command argument = pending kind command argument 0 0 0
+
+-- an escape by its bytes so far; of three, the second is the mode of ESC *
 abbrev pub pendingBytes : List ℕ → Pending
-pendingBytes [] = pending 1 0 0 0
-pendingBytes (code ∷ []) = pending 2 code 0 0
-pendingBytes (code ∷ argument ∷ l) = pending 3 code argument 0
+pendingBytes [] = escaped 1 0 0
+pendingBytes (code ∷ []) = escaped 2 code 0
+pendingBytes (code ∷ argument ∷ []) = escaped 3 code argument
+pendingBytes (code ∷ mode ∷ argument ∷ l) = pending 6 code argument mode 0 0
 
 abbrev pub pendingOf : Waiting → Pending
-pendingOf Waiting.Nothing = pending 0 0 0 0
+pendingOf Waiting.Nothing = escaped 0 0 0
 pendingOf Waiting.SecondByte = pendingBytes []
 pendingOf (Waiting.Arguments w) = pendingBytes (begunBy w)
-pendingOf (Waiting.StopList t b) = pending 4 (secondCode (Second.List t)) b 0
-pendingOf (Waiting.ImageData d n) = pending 5 (twoCode (Two.Image d)) 0 n
+pendingOf (Waiting.StopList t b) = escaped 4 (secondCode (Second.List t)) b
+pendingOf (Waiting.ImageData m k n) = pending 5 0 0 (imageModeNumber m) k n
 
 -- the registers of a printer: the one law between them
 abbrev pub registersOf : Printer → List ℕ
@@ -65,18 +68,15 @@ resumed Waiting.Nothing b = Waiting.Nothing
 resumed Waiting.SecondByte b = Waiting.Nothing
 resumed (Waiting.Arguments w) b = argued w b
 resumed (Waiting.StopList t before) b = Waiting.StopList t b
-resumed (Waiting.ImageData d n) b = Waiting.Nothing
+resumed (Waiting.ImageData m k n) b = Waiting.Nothing
 
--- image data with so many columns to come, by the codes of its commands
-abbrev imageRow : Density → ℕ → ℕ × Waiting
-imageRow d n = (twoCode (Two.Image d), Waiting.ImageData d n)
+-- image data by its mode
+abbrev pub imagedBy : Selected → (k n : ℕ) → Waiting
+imagedBy (Selected.Mode m) k n = Waiting.ImageData m k n
+imagedBy Selected.Unlisted k n = Waiting.Nothing
 
-unfoldable pub images : ℕ → List (ℕ × Waiting)
-images n =
-    imageRow Density.Single n ∷ imageRow Density.Double n ∷ imageRow Density.DoubleSpeed n ∷ imageRow Density.Quadruple n ∷ []
-
-abbrev pub imaged : ℕ → ℕ → Waiting
-imaged code n = lookup (images n) Waiting.Nothing code
+abbrev pub imaged : (mode k n : ℕ) → Waiting
+imaged mode k n = imagedBy (selectedOf mode) k n
 
 -- what each kind is, by what the escape's second byte begins or is; numbers that no kind has so are refused, since what they are
 -- read as has others
@@ -87,7 +87,8 @@ kinds begun v =
     (2, begun) ∷
     (3, resumed begun (v .argument)) ∷
     (4, resumed begun (v .argument)) ∷
-    (5, imaged (v .command) (v .columns)) ∷
+    (5, imaged (v .mode) (v .part) (v .columns)) ∷
+    (6, resumed (resumed begun (v .mode)) (v .argument)) ∷
     []
 
 abbrev pub waitingOf : Pending → Waiting
@@ -95,7 +96,8 @@ waitingOf v = lookup (kinds (begins (v .command)) v) Waiting.Nothing (v .kind)
 
 -- the numbers as the types of what is waited for hold them
 abbrev pub pendingIn : List ℕ → Pending
-pendingIn m = pending (getD m 0 0) (getD m 1 0 % 256) (getD m 2 0 % 256) (getD m 3 0 % 65536)
+pendingIn m =
+    pending (getD m 0 0) (getD m 1 0 % 256) (getD m 2 0 % 256) (getD m 3 0 % 256) (getD m 4 0 % 256) (getD m 5 0 % 65536)
 
 -- the printer that registers are read as: the one way back
 unfoldable pub printerIn : List ℕ → Printer
@@ -120,7 +122,7 @@ imageTyped Waiting.Nothing = Unit
 imageTyped Waiting.SecondByte = Unit
 imageTyped (Waiting.Arguments w) = Unit
 imageTyped (Waiting.StopList t b) = Unit
-imageTyped (Waiting.ImageData d n) = n ≤ 65535
+imageTyped (Waiting.ImageData m k n) = (k ≤ 255) × (n ≤ 65535)
 
 pub record Plain (p : Printer) : Type 0 where
   pub typed : Typed p

@@ -27,35 +27,35 @@ stores [] m = m
 stores (e ∷ l) m = stores l (set m (e .0) (e .1))
 
 abbrev pub placeCells : Place → List (ℕ × ℕ)
-placeCells x = (4, acrossOf x) ∷ (5, downOf x) ∷ []
+placeCells x = (6, acrossOf x) ∷ (7, downOf x) ∷ []
 
 abbrev pub lengthCells : Margins → Paper → List (ℕ × ℕ)
 lengthCells x y =
-    (6, x .left .0) ∷ (7, x .right .0) ∷ (8, y .page .0) ∷ (9, y .skip .0) ∷ (10, y .line .0) ∷ []
+    (8, x .left .0) ∷ (9, x .right .0) ∷ (10, y .page .0) ∷ (11, y .skip .0) ∷ (12, y .line .0) ∷ []
 
 abbrev pub setupCells : Setup → List (ℕ × ℕ)
-setupCells s = (11, perInchAcross (s .resolution)) ∷ (12, perInchDown (s .resolution)) ∷ (13, flag (s .autofeed)) ∷ (14, s .width .0) ∷ []
+setupCells s = (13, perInchAcross (s .resolution)) ∷ (14, perInchDown (s .resolution)) ∷ (15, flag (s .autofeed)) ∷ (16, s .width .0) ∷ []
 
 abbrev pub widthCells : Width → List (ℕ × ℕ)
 widthCells w =
-    (15, pitchNumber (w .pitch)) ∷ (16, w .spacing) ∷ (17, flag (w .wide)) ∷ (18, flag (w .wideonce)) ∷
-    (19, flag (w .reduced)) ∷ (20, flag (w .proportional)) ∷ []
+    (17, pitchNumber (w .pitch)) ∷ (18, w .spacing) ∷ (19, flag (w .wide)) ∷ (20, flag (w .wideonce)) ∷
+    (21, flag (w .reduced)) ∷ (22, flag (w .proportional)) ∷ []
 
 abbrev pub emphasisCells : Emphasis → Script → List (ℕ × ℕ)
 emphasisCells e s =
-    (21, flag (e .bold)) ∷ (22, flag (e .doublestrike)) ∷ (23, flag (e .italic)) ∷ (24, flag (e .underline)) ∷
-    (25, flag (s .superscript)) ∷ (26, flag (s .subscript)) ∷ []
+    (23, flag (e .bold)) ∷ (24, flag (e .doublestrike)) ∷ (25, flag (e .italic)) ∷ (26, flag (e .underline)) ∷
+    (27, flag (s .superscript)) ∷ (28, flag (s .subscript)) ∷ []
 
 abbrev pub faceCells : Face → List (ℕ × ℕ)
 faceCells f =
-    (27, f .font) ∷ (28, f .country) ∷ (29, f .outline) ∷ (30, flag (f .doubleheight)) ∷ (31, flag (f .italictable)) ∷
-    (32, flag (f .download)) ∷ []
+    (29, f .font) ∷ (30, f .country) ∷ (31, f .outline) ∷ (32, flag (f .doubleheight)) ∷ (33, flag (f .italictable)) ∷
+    (34, flag (f .download)) ∷ []
 
 abbrev pub printingCells : (draft upperprints : Bool) → List (ℕ × ℕ)
-printingCells draft upperprints = (33, flag draft) ∷ (34, flag upperprints) ∷ []
+printingCells draft upperprints = (35, flag draft) ∷ (36, flag upperprints) ∷ []
 
 abbrev pub derivedCells : Settings → List (ℕ × ℕ)
-derivedCells s = (35, styleOf s) ∷ (36, advanceOf s) ∷ (37, columnOf s) ∷ []
+derivedCells s = (37, styleOf s) ∷ (38, advanceOf s) ∷ (39, columnOf s) ∷ []
 
 -- all of the settings
 unfoldable pub settingsStored : Settings → List ℕ → List ℕ
@@ -66,7 +66,8 @@ settingsStored s m =
 
 -- what is waited for
 abbrev pub pended : Pending → List ℕ → List ℕ
-pended v m = stores ((0, v .kind) ∷ (1, v .command) ∷ (2, v .argument) ∷ (3, v .columns) ∷ []) m
+pended v m =
+    stores ((0, v .kind) ∷ (1, v .command) ∷ (2, v .argument) ∷ (3, v .mode) ∷ (4, v .part) ∷ (5, v .columns) ∷ []) m
 
 -- numbers over the registers from a place on
 abbrev pub over : ℕ → List ℕ → List ℕ → List ℕ
@@ -78,17 +79,25 @@ listStored from t m = over (from + 1) (t .stops) (set m from (t .count))
 
 unfoldable pub stopsStored : Stops → List ℕ → List ℕ
 stopsStored t m =
-    listStored 105 (t .gathered) (listStored 72 (t .lines) (listStored 39 (t .columns) (set m 38 (flag (t .lineset)))))
+    listStored 107 (t .gathered) (listStored 74 (t .lines) (listStored 41 (t .columns) (set m 40 (flag (t .lineset)))))
 
 -- what registers say is waited for, as it stands
 abbrev pub staleIn : List ℕ → Pending
-staleIn m = record { kind = getD m 0 0; command = getD m 1 0; argument = getD m 2 0; columns = getD m 3 0 }
+staleIn m =
+    record {
+      kind = getD m 0 0;
+      command = getD m 1 0;
+      argument = getD m 2 0;
+      mode = getD m 3 0;
+      part = getD m 4 0;
+      columns = getD m 5 0;
+    }
 
 -- the settings at power-on that are not 0, but for those of the start: right margin, page, line, pitch, upper codes print
 abbrev pub powerOnCells : Units → List (ℕ × ℕ)
-powerOnCells width = (7, width .0) ∷ (8, 39600) ∷ (10, 600) ∷ (15, 10) ∷ (34, 1) ∷ []
+powerOnCells width = (9, width .0) ∷ (10, 39600) ∷ (12, 600) ∷ (17, 10) ∷ (36, 1) ∷ []
 
 -- the horizontal stops at power-on: nine, at columns 8, 16 .. 72
 abbrev pub columnCells : List (ℕ × ℕ)
 columnCells =
-    (39, 9) ∷ (40, 8) ∷ (41, 16) ∷ (42, 24) ∷ (43, 32) ∷ (44, 40) ∷ (45, 48) ∷ (46, 56) ∷ (47, 64) ∷ (48, 72) ∷ []
+    (41, 9) ∷ (42, 8) ∷ (43, 16) ∷ (44, 24) ∷ (45, 32) ∷ (46, 40) ∷ (47, 48) ∷ (48, 56) ∷ (49, 64) ∷ (50, 72) ∷ []

@@ -24,6 +24,8 @@ use crate::pending::waiting_in;
 use crate::same::same_registers;
 use crate::stores::whole;
 use measures::stops;
+use measures::widths::image_bytes;
+use printer::commands::ImageMode;
 use printer::commands::Tabs;
 use printer::commands::Waiting;
 use printer::state::Printer;
@@ -34,7 +36,8 @@ ghost use Rattle.printer.specs.Bounds.{settingsBounds, placeBounds, lastStop, l
 ghost use Rattle.printer.specs.Deciding.{mostStops};
 ghost use Rattle.printer.specs.Escapes.{countries};
 ghost use Rattle.printer.specs.Performing.{stopOf};
-ghost use Rattle.printer.specs.Tools.{holds, pick};
+ghost use Rattle.printer.specs.Tools.{both, holds, pick};
+ghost use Rattle.printer.specs.Widths.{imageBytes};
 ghost use Rattle.printer.specs.declared.commands.Tabs.{Tabs};
 ghost use Rattle.registers.specs.Groups.{placeIn, settingsIn, stopsIn};
 ghost use Rattle.registers.specs.State.{waitingOf, pendingIn, acceptedIn};
@@ -156,6 +159,14 @@ fn gathering_within(m: &[u32; COUNT], k: Tabs, byte: u8) -> bool
         & list_within(&all[GATHERED_STOPS..COUNT], count, k)
 }
 
+// Image data: some columns, and a byte that a column has.
+fn image_within(mode: ImageMode, k: u8, n: u16) -> bool
+    ensures { λ r. ⌜ r ≡ both (leb 1 n) (both (leb 1 k) (leb k (imageBytes mode))) ⌝ }
+{
+    let bytes = image_bytes(mode);
+    (1 <= n) & ((1 <= k) & (k <= bytes))
+}
+
 fn waiting_within(m: &[u32; COUNT], w: Waiting) -> bool
     ensures { λ r. ⌜ r ≡ holds (waitingBounds (settingsIn (now (m .entry))) (stopsIn (now (m .entry))) w) ⌝ }
 {
@@ -164,7 +175,7 @@ fn waiting_within(m: &[u32; COUNT], w: Waiting) -> bool
         Waiting::SecondByte => true,
         Waiting::Arguments(_) => true,
         Waiting::StopList(k, byte) => gathering_within(m, k, byte),
-        Waiting::ImageData(_, n) => 1 <= n,
+        Waiting::ImageData(mode, k, n) => image_within(mode, k, n),
     }
 }
 

@@ -41,7 +41,7 @@ pub enum Shown {
 }
 
 fn register_of(k: Shown) -> usize
-    ensures { λ r. ⌜ (r ≡ registerOf k) × (r ≤ 32) ⌝ }
+    ensures { λ r. ⌜ (r ≡ registerOf k) × (r ≤ 34) ⌝ }
 {
     match k {
         Shown::Bold => BOLD,

@@ -2,38 +2,74 @@
 use crate::ARGUMENT;
 use crate::COMMAND;
 use crate::COUNT;
+use crate::IMAGE_BYTE;
 use crate::IMAGE_COLUMNS;
+use crate::IMAGE_MODE;
 use crate::KIND;
 use framing::codes;
 use framing::codes::BegunBytes;
 use printer::commands::Begun;
-use printer::commands::Density;
 use printer::commands::Second;
+use printer::commands::Selected;
 use printer::commands::Waiting;
 ghost use mathlib.Core.Path.{_≡_};
 ghost use lib.ListN.{drop};
 ghost use Rattle.printer.specs.Codes.{begunBy};
 ghost use Rattle.printer.specs.Framing.{advancedFrame};
 ghost use Rattle.printer.specs.Tools.{lookup};
+ghost use Rattle.printer.specs.declared.commands.Begun.{Begun};
 ghost use Rattle.printer.specs.declared.commands.Waiting.{Waiting};
 ghost use Rattle.registers.specs.Stores.{pended};
-ghost use Rattle.registers.specs.State.{pending, pendingBytes, pendingOf, begins, waitsIn, argued, resumed, imaged, kinds, waitingOf, pendingIn};
+ghost use Rattle.registers.specs.State.{pending, escaped, pendingBytes, pendingOf, begins, waitsIn, argued, resumed, imaged, kinds, waitingOf, pendingIn};
 
-// A kind, the escape's second byte, the argument or list byte before, the image columns left.
+// A kind, the escape's second byte, the argument or list byte before; an image's mode, the byte of a column that comes, and the columns left.
 pub struct Pending {
     pub kind: u32,
     pub command: u8,
     pub argument: u8,
+    pub mode: u8,
+    pub part: u8,
     pub columns: u16,
 }
 
-fn numbers(kind: u32, command: u8, argument: u8, columns: u16) -> Pending
-    ensures { λ r. ⌜ r ≡ pending kind command argument columns ⌝ }
+// Of an escape or a list.
+fn escaped(kind: u32, command: u8, argument: u8) -> Pending
+    ensures { λ r. ⌜ r ≡ escaped kind command argument ⌝ }
 {
     Pending {
         kind,
         command,
         argument,
+        mode: 0,
+        part: 0,
+        columns: 0,
+    }
+}
+
+// Of an escape whose first argument is an image's mode.
+fn selected(command: u8, mode: u8, argument: u8) -> Pending
+    ensures { λ r. ⌜ r ≡ pending 6 command argument mode 0 0 ⌝ }
+{
+    Pending {
+        kind: 6,
+        command,
+        argument,
+        mode,
+        part: 0,
+        columns: 0,
+    }
+}
+
+// Of image data.
+fn image(mode: u8, part: u8, columns: u16) -> Pending
+    ensures { λ r. ⌜ r ≡ pending 5 0 0 mode part columns ⌝ }
+{
+    Pending {
+        kind: 5,
+        command: 0,
+        argument: 0,
+        mode,
+        part,
         columns,
     }
 }
@@ -43,8 +79,9 @@ fn pending_begun(w: Begun) -> Pending
 {
     let bytes = codes::begun_bytes(w);
     match bytes {
-        BegunBytes::Code(code) => numbers(2, code, 0, 0),
-        BegunBytes::Argument(code, argument) => numbers(3, code, argument, 0),
+        BegunBytes::Code(code) => escaped(2, code, 0),
+        BegunBytes::Argument(code, argument) => escaped(3, code, argument),
+        BegunBytes::Arguments(code, mode, argument) => selected(code, mode, argument),
     }
 }
 
@@ -53,11 +90,11 @@ pub fn pending_of(w: Waiting) -> Pending
     ensures { λ r. ⌜ r ≡ pendingOf w ⌝ }
 {
     match w {
-        Waiting::Nothing => numbers(0, 0, 0, 0),
-        Waiting::SecondByte => numbers(1, 0, 0, 0),
+        Waiting::Nothing => escaped(0, 0, 0),
+        Waiting::SecondByte => escaped(1, 0, 0),
         Waiting::Arguments(b) => pending_begun(b),
-        Waiting::StopList(t, b) => numbers(4, codes::list_code(t), b, 0),
-        Waiting::ImageData(d, n) => numbers(5, codes::image_code(d), 0, n),
+        Waiting::StopList(t, b) => escaped(4, codes::list_code(t), b),
+        Waiting::ImageData(m, k, n) => image(codes::image_mode_number(m), k, n),
     }
 }
 
@@ -87,7 +124,17 @@ fn advanced(b: u8) -> Waiting
     }
 }
 
-// After its first argument, if another follows.
+// After the mode of ESC *, if it is listed.
+fn mode_selected(b: u8) -> Waiting
+    ensures { λ r. ⌜ r ≡ argued Begun.SelectMode b ⌝ }
+{
+    match codes::selected_of(b) {
+        Selected::Mode(m) => Waiting::Arguments(Begun::ColumnsLow(m)),
+        Selected::Unlisted => Waiting::Nothing,
+    }
+}
+
+// After an argument, if another follows.
 fn argued(w: Begun, a: u8) -> Waiting
     ensures { λ r. ⌜ r ≡ argued w a ⌝ }
 {
@@ -100,6 +147,8 @@ fn argued(w: Begun, a: u8) -> Waiting
         }
         Begun::Advanced => advanced(a),
         Begun::FirstOf(c) => Waiting::Arguments(Begun::SecondOf(c, a)),
+        Begun::SelectMode => mode_selected(a),
+        Begun::ColumnsLow(m) => Waiting::Arguments(Begun::ColumnsHigh(m, a)),
         _ => Waiting::Nothing,
     }
 }
@@ -113,20 +162,17 @@ fn resumed(begun: Waiting, b: u8) -> Waiting
         Waiting::SecondByte => Waiting::Nothing,
         Waiting::Arguments(w) => argued(w, b),
         Waiting::StopList(t, _) => Waiting::StopList(t, b),
-        Waiting::ImageData(_, _) => Waiting::Nothing,
+        Waiting::ImageData(_, _, _) => Waiting::Nothing,
     }
 }
 
-// Image data with so many columns to come, by its command's code.
-fn imaged(code: u8, n: u16) -> Waiting
-    ensures { λ r. ⌜ r ≡ imaged code n ⌝ }
+// Image data by its mode.
+fn imaged(mode: u8, k: u8, n: u16) -> Waiting
+    ensures { λ r. ⌜ r ≡ imaged mode k n ⌝ }
 {
-    match code {
-        b'K' => Waiting::ImageData(Density::Single, n),
-        b'L' => Waiting::ImageData(Density::Double, n),
-        b'Y' => Waiting::ImageData(Density::DoubleSpeed, n),
-        b'Z' => Waiting::ImageData(Density::Quadruple, n),
-        _ => Waiting::Nothing,
+    match codes::selected_of(mode) {
+        Selected::Mode(m) => Waiting::ImageData(m, k, n),
+        Selected::Unlisted => Waiting::Nothing,
     }
 }
 
@@ -140,7 +186,8 @@ fn waiting_begun(v: Pending) -> Waiting
         2 => begun,
         3 => resumed(begun, v.argument),
         4 => resumed(begun, v.argument),
-        5 => imaged(v.command, v.columns),
+        5 => imaged(v.mode, v.part, v.columns),
+        6 => resumed(resumed(begun, v.mode), v.argument),
         _ => Waiting::Nothing,
     }
 }
@@ -165,6 +212,8 @@ pub(crate) fn pending_in(m: &[u32; COUNT]) -> Pending
         kind: m[KIND],
         command: (m[COMMAND] % 256) as u8,
         argument: (m[ARGUMENT] % 256) as u8,
+        mode: (m[IMAGE_MODE] % 256) as u8,
+        part: (m[IMAGE_BYTE] % 256) as u8,
         columns: (m[IMAGE_COLUMNS] % 65536) as u16,
     }
 }
@@ -181,5 +230,7 @@ pub fn store_pending(m: &mut [u32; COUNT], v: Pending)
     m[KIND] = v.kind;
     m[COMMAND] = v.command as u32;
     m[ARGUMENT] = v.argument as u32;
+    m[IMAGE_MODE] = v.mode as u32;
+    m[IMAGE_BYTE] = v.part as u32;
     m[IMAGE_COLUMNS] = v.columns as u32;
 }

@@ -23,7 +23,7 @@ ghost use Rattle.registers.specs.Stores.{stores, staleIn, powerOnCells, 
 
 // All registers but those of what is waited for are 0.
 fn clear(m: &mut [u32; COUNT])
-    ensures { λ _. ⌜ now (m .exit) ≡ take 4 (now (m .entry)) ++ replicate 134 0 ⌝ }
+    ensures { λ _. ⌜ now (m .exit) ≡ take 6 (now (m .entry)) ++ replicate 134 0 ⌝ }
 {
     let n = whole(&*m);
     let mut i: usize = ACROSS;

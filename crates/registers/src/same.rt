@@ -14,7 +14,9 @@ use crate::DOUBLE_STRIKE;
 use crate::DOWNLOAD;
 use crate::DRAFT;
 use crate::FONT;
+use crate::IMAGE_BYTE;
 use crate::IMAGE_COLUMNS;
+use crate::IMAGE_MODE;
 use crate::ITALIC;
 use crate::ITALIC_TABLE;
 use crate::KIND;
@@ -65,7 +67,9 @@ fn same_pending(m: &[u32; COUNT], v: Pending) -> bool
 {
     (m[KIND] == v.kind)
         & ((m[COMMAND] == v.command as u32)
-            & ((m[ARGUMENT] == v.argument as u32) & (m[IMAGE_COLUMNS] == v.columns as u32)))
+            & ((m[ARGUMENT] == v.argument as u32)
+                & ((m[IMAGE_MODE] == v.mode as u32)
+                    & ((m[IMAGE_BYTE] == v.part as u32) & (m[IMAGE_COLUMNS] == v.columns as u32)))))
 }
 
 fn same_setup(m: &[u32; COUNT]) -> bool

@@ -261,12 +261,52 @@ fn the_places_of_esc_i() {
 
 #[test]
 fn image_data() {
-    let image = |units, columns| accepts(|s| s.waiting = Waiting::Image { units, columns });
-    for units in [60, 30, 15] {
-        assert!(image(units, 1) && image(units, 65_535));
-        assert!(!image(units, 0) && !image(units, 65_536));
+    let image = |mode, nth, columns| accepts(|s| s.waiting = Waiting::Image { mode, nth, columns });
+    for (modes, bytes) in [(ONE_BYTE, 1), (THREE_BYTES, 3)] {
+        for &mode in modes {
+            for nth in 1..=bytes {
+                assert!(image(mode, nth, 1) && image(mode, nth, 65_535));
+                assert!(!image(mode, nth, 0) && !image(mode, nth, 65_536));
+                assert!(!image(mode, nth, u32::MAX));
+            }
+            for nth in (bytes + 1..=255).chain([0]) {
+                assert!(!image(mode, nth, 1));
+            }
+        }
     }
-    assert!(!image(0, 1) && !image(45, 1));
+    for mode in unlisted() {
+        assert!((0..=4).all(|nth| !image(mode, nth, 1)), "mode {mode}");
+    }
+}
+
+const ONE_BYTE: &[u8] = &[0, 1, 2, 3, 4, 6];
+const THREE_BYTES: &[u8] = &[32, 33, 38, 39, 40];
+
+fn unlisted() -> impl Iterator<Item = u8> {
+    let listed = |mode: &u8| ONE_BYTE.contains(mode) || THREE_BYTES.contains(mode);
+    (0..=255).filter(move |mode| !listed(mode))
+}
+
+/// ESC * has places of its own, and none among the arguments.
+#[test]
+fn the_places_of_esc_star() {
+    assert!(accepts(|s| s.waiting = Waiting::ImageMode));
+    let low = |mode| accepts(|s| s.waiting = Waiting::ColumnsLow { mode });
+    let high = |mode, low| accepts(|s| s.waiting = Waiting::ColumnsHigh { mode, low });
+    for &mode in ONE_BYTE.iter().chain(THREE_BYTES) {
+        assert!(low(mode) && (0..=255).all(|low| high(mode, low)));
+    }
+    for mode in unlisted() {
+        assert!(!low(mode) && !high(mode, 0) && !high(mode, 255));
+    }
+    for given in [0, 1, 2, 3] {
+        let waiting = Waiting::Arguments {
+            command: b'*',
+            given,
+            first: 39,
+        };
+        assert!(!accepts(|s| s.waiting = waiting));
+    }
 }
 
 #[test]

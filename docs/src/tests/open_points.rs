@@ -105,7 +105,7 @@ fn refused_arguments() {
         at_300(b"\x1B\x1B\x1B\x0A\x00\x7F"),
         [27, 10, 0, 127].map(|b| no(b, 1))
     );
-    assert_eq!(at_300(b"\x1B&\x1B:\x1B*"), [38, 58, 42].map(|b| no(b, 1)));
+    assert_eq!(at_300(b"\x1B&\x1B:\x1B?"), [38, 58, 63].map(|b| no(b, 1)));
 }
 
 #[test]

@@ -1,4 +1,4 @@
--- So many bytes of image data: none is nothing to wait for.
+-- So many columns of image data: none is nothing to wait for.
 use borrow.Author.Tests.{ne-eqb}
 use Rattle.framing.proofs.image_wait.Statement.{statement}
 use Rattle.framing.proofs.image_wait.Tie as tie

@@ -25,7 +25,7 @@ unfolding laid styleOf
 returns-4 c p v h =
     let k = c .before .before .before .before .k .given in
     let s = withWidth (p .settings) (withPitch (p .settings .width) (k .0 .0)) in
-    rw (k .1) (width-stored h s (h .small) 15 (c .before .pitch-number .ensures) (c .store-width .ensures) refl)
+    rw (k .1) (width-stored h s (h .small) 17 (c .before .pitch-number .ensures) (c .store-width .ensures) refl)
 
 returns-5 : tie.Need-returns-5
 unfolding laid styleOf

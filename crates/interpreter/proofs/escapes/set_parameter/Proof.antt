@@ -26,7 +26,7 @@ returns-4 : tie.Need-returns-4
 unfolding laid styleOf
 returns-4 c p v h =
     let s = withWidth (p .settings) (withSpacing (p .settings .width) (c .before .before .before .before .args .n % 128)) in
-    rw (c .before .before .enum-told4 .given .1) (width-stored h s (omega arith, h .small .1) 16 refl (c .store-width .ensures) refl)
+    rw (c .before .before .enum-told4 .given .1) (width-stored h s (omega arith, h .small .1) 18 refl (c .store-width .ensures) refl)
 
 returns-5 : tie.Need-returns-5
 returns-5 c p v h =

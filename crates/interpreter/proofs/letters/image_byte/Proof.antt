@@ -13,13 +13,14 @@ returns : tie.Need-returns
 returns c p v h =
     let b = c .before .before in
     let d = b .before .before .before in
-    let e = d .before .before in
-    let a = e .before .before .before .before .before .args in
+    let f = d .before in
+    let e = f .before .before in
+    let a = e .before .before .before .before .args in
     did-by (b .print-or-pass .ensures p v h)
-    (rw (d .image-record .ensures p v h, e .rightward .ensures, e .before .before .image-step .ensures, across-held h, right-held h)
-    (prints p (Command.ImageByte (a .d) (a .b)) _ _ _ (both-true _) refl refl))
+    (rw (d .image-record .ensures p v h, e .column-end .ensures, f .column-part .ensures, across-held h, right-held h)
+    (prints p (Command.ImageByte (a .mode) (a .k) (a .b)) _ _ _ (both-true _) refl refl))
 
 pub image-byte-spec : {M : Type 1} → statement M
 image-byte-spec =
     tie.close
-    (tie.spec (λ c. search needs) (λ c κs. search needs) (λ c. search needs) (λ c κs. search needs) (λ c κs. search needs) (λ c κs. search needs) (λ c. search needs) returns)
+    (tie.spec (λ c. search needs) (λ c. search needs) (λ c κs. search needs) (λ c κs. search needs) (λ c κs. search needs) (λ c κs. search needs) (λ c. search needs) returns)

@@ -65,7 +65,7 @@ returns-2 c =
 -- the units moved by
 moved : (q : tie.After-place-all)
     → (let a = q .before .before .before .before .before .before .before .before .before .before in
-    q .place-all .result .count * a .args .step .0 + getD (now (a .args .m)) 4 0 ≤ 28800)
+    q .place-all .result .count * a .args .step .0 + getD (now (a .args .m)) 6 0 ≤ 28800)
 moved q =
     let f = q .before .before .before .before in
     let a = f .before .before .before .before .before .before in

@@ -17,7 +17,7 @@ returns c =
     let a = b .before .before .before .args in
     let m = now (a .m) in
     rw (c .store-double .ensures, c .before .flag2 .ensures, b .flag .ensures)
-    (ap (λ (once : Bool). doubleStored m (flag (a .on)) (flag once)) (and-pick (a .on) (isSet (getD m 18 0))))
+    (ap (λ (once : Bool). doubleStored m (flag (a .on)) (flag once)) (and-pick (a .on) (isSet (getD m 20 0))))
 
 pub double-spec : {M : Type 1} → statement M
 double-spec =

@@ -19,7 +19,7 @@ returns c p v h =
     let on = b .before .before .before .before .args .on in
     c .keep-widths .ensures
     ∙ rw (b .store-double .ensures, b .before .flag .ensures)
-    (widths-kept h (withWideOnce (p .settings) on) (λ (l : List ℕ). doubleStored l (getD l 17 0) (flag on)) (double-kept (styled-held h) _ _) (h .small) refl)
+    (widths-kept h (withWideOnce (p .settings) on) (λ (l : List ℕ). doubleStored l (getD l 19 0) (flag on)) (double-kept (styled-held h) _ _) (h .small) refl)
 
 pub wide-once-spec : {M : Type 1} → statement M
 wide-once-spec =

@@ -1,6 +1,9 @@
 -- An argument, by those so far.
 use mathlib.Core.Path.{refl}
 use borrow.Author.Needs.{needs}
+use Rattle.printer.specs.declared.commands.Command.{Command}
+use Rattle.printer.specs.declared.commands.Opening.{Opening}
+use Rattle.interpreter.proofs.Escaping.{silently}
 use Rattle.interpreter.proofs.Stepping.{argument-frame, waited, whole}
 use Rattle.interpreter.proofs.steps.argument_step.Statement.{statement}
 use Rattle.interpreter.proofs.steps.argument_step.Tie as tie
@@ -30,11 +33,21 @@ returns-6 c p v h = rw (c .waits .ensures) (waited h _ (argument-frame h _ refl 
 returns-7 : tie.Need-returns-7
 returns-7 c p v h = c .before .before .two-step .ensures p v (rw (c .before .before .before .before .before .before .w3 .given .1) at h)
 
+returns-8 : tie.Need-returns-8
+returns-8 c p v h = c .before .before .select-step .ensures p v _ (rw (c .before .before .before .before .enum-told5 .given .1) at h)
+
+returns-9 : tie.Need-returns-9
+returns-9 c p v h = rw (c .waits2 .ensures) (waited h _ (argument-frame h _ refl (c .before .before .w4 .given .1)))
+
+returns-10 : tie.Need-returns-10
+returns-10 c p v h =
+    let d = c .before .before .before .w5 .given in
+    let b = c .before .before .before .before .before .before .args .b in
+    rw (c .waits3 .ensures, c .before .image-wait .ensures)
+    (whole h _ (argument-frame h _ refl (d .1)) (silently (Command.OpenImage (Opening.Selected (d .0 .0)) (d .0 .1 .0) b) refl (h .held .same)))
+
 pub argument-step-spec : {M : Type 1} → statement M
 argument-step-spec =
     tie.close
-    (tie.spec (λ c. search needs) (λ c κs. search needs) (λ c κs. search needs) (λ c. search needs) (λ c κs. search needs)
-    (λ c. search needs) (λ c κs. search needs) (λ c κs. search needs) (λ c. search needs) (λ c κs. search needs)
-    (λ c. search needs) (λ c κs. search needs) (λ c. search needs) (λ c κs. search needs) (λ c. search needs)
-    (λ c κs. search needs) (λ c. search needs) returns (λ c. search needs) returns-2 (λ c. search needs) returns-3
-    (λ c. search needs) returns-4 (λ c. search needs) returns-5 returns-6 (λ c. search needs) returns-7)
+    (tie.spec (λ c. search needs) (λ c κs. search needs) (λ c κs. search needs) (λ c. search needs) (λ c κs. search needs) (λ c. search needs) (λ c κs. search needs) (λ c κs. search needs) (λ c. search needs) (λ c κs. search needs) (λ c. search needs) (λ c κs. search needs) (λ c. search needs) (λ c κs. search needs) (λ c. search needs) (λ c κs. search needs) (λ c. search needs) (λ c κs. search needs) (λ c. search needs) (λ c κs. search needs) (λ c. search needs) (λ c. search needs) (λ c. search needs) (λ c. search needs) (λ c κs. search needs) (λ c κs. search needs)
+    (λ c. search needs) returns (λ c. search needs) returns-2 (λ c. search needs) returns-3 (λ c. search needs) returns-4 (λ c. search needs) returns-5 returns-6 (λ c. search needs) returns-7 (λ c. search needs) returns-8 returns-9 returns-10)

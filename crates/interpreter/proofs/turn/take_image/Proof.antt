@@ -15,7 +15,7 @@ returns c =
     let a = i .before .before .before .before .before .before in
     let b = getD (now (a .args .input)) 0 0 in (
       λ p v h.
-          rw (c .image-wait .ensures)
+          rw (c .after-image-byte .ensures)
           (byte-taken (a .pre .1 .0 .0) (a .pre .1 .0 .1) (whole h b (image-frame h b refl) (i .image-byte .ensures p v (h .held)))),
       (omega arith, omega (arith, a .pre)),
     )
@@ -23,5 +23,4 @@ returns c =
 pub take-image-spec : {M : Type 1} → statement M
 take-image-spec =
     tie.close
-    (tie.spec (λ c. search needs) (λ c κs. search needs) (λ c. search needs) (λ c. search needs) (λ c κs. search needs)
-    (λ c. search needs) returns)
+    (tie.spec (λ c. search needs) (λ c κs. search needs) (λ c. search needs) (λ c κs. search needs) (λ c. search needs) returns)

@@ -23,7 +23,7 @@ letter-requires c κs =
     let i = c .before .before .before in
     let r = i .before .before .before in
     let a = r .before .before .before .before .before .before .before .before in
-    let same = not-moved (now (a .args .m)) (getD (now (a .args .m)) 36 0) (i .if1 .taken) (r .place-run .ensures .1 .0) in
+    let same = not-moved (now (a .args .m)) (getD (now (a .args .m)) 38 0) (i .if1 .taken) (r .place-run .ensures .1 .0) in
     let kept = not-written (i .if1 .taken) (r .place-run .ensures .1 .1 .0) in
     rw kept (omega (arith, a .pre .1 .0 .1))
 
@@ -38,7 +38,7 @@ returns c =
     let i = s .before .before .before .before in
     let r = i .before .before .before in
     let a = r .before .before .before .before .before .before .before .before in
-    let same = not-moved (now (a .args .m)) (getD (now (a .args .m)) 36 0) (i .if1 .taken) (r .place-run .ensures .1 .0) in
+    let same = not-moved (now (a .args .m)) (getD (now (a .args .m)) 38 0) (i .if1 .taken) (r .place-run .ensures .1 .0) in
     let kept = not-written (i .if1 .taken) (r .place-run .ensures .1 .1 .0) in (
       λ p v h.
           byte-taken (a .pre .1 .0 .0) (a .pre .1 .0 .1)
@@ -61,7 +61,7 @@ returns-2 c =
     let q = r .place-run .ensures in (
       λ p v h.
           rw (q .1 .0)
-          (letters-taken h _ refl (q .0 .0) (letters-from (isSet (getD (now (a .args .m)) 34 0)) (take (r .place-run .result .count) (now (a .args .input))) (a .pre .1 .1 .0 .1) (q .0 .1)) (t .letter-record .ensures p v (h .held)) (q .1 .1 .0)),
+          (letters-taken h _ refl (q .0 .0) (letters-from (isSet (getD (now (a .args .m)) 36 0)) (take (r .place-run .result .count) (now (a .args .input))) (a .pre .1 .1 .0 .1) (q .0 .1)) (t .letter-record .ensures p v (h .held)) (q .1 .1 .0)),
       (omega (arith, c .if1 .left), q .1 .1 .1),
     )
 

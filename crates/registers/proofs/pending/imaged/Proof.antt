@@ -1,14 +1,11 @@
--- An arm for each image command, the last for what is none.
-use Rattle.printer.specs.Tools.{lookup}
-use Rattle.printer.specs.declared.commands.Waiting.{Waiting}
-use Rattle.framing.proofs.Tables.{lookup-rest}
-use Rattle.registers.specs.State.{images}
+-- By the mode that is selected.
+use borrow.Author.Needs.{needs}
 use Rattle.registers.proofs.pending.imaged.Statement.{statement}
 use Rattle.registers.proofs.pending.imaged.Tie as tie
 
 pub imaged-spec : {M : Type 1} → statement M
-unfolding lookup images
 imaged-spec =
     tie.close
-    (tie.spec (λ c. rw (c .match .keys1)) (λ c. rw (c .match .keys2)) (λ c. rw (c .match .keys3)) (λ c. rw (c .match .keys4))
-    (λ c. lookup-rest 4 (images _) Waiting.Nothing _ (c .match .rest)))
+    (tie.spec (λ c κs. search needs) (λ c. search needs) (λ c. search needs)
+    (λ c. rw (← c .before .before .before .selected-of .ensures, c .before .m .given .1))
+    (λ c. rw (← c .before .before .selected-of .ensures, c .enum-told .given .1)))

@@ -1,4 +1,4 @@
--- The loop lays zeros over the registers from the fifth on.
+-- The loop lays zeros over the registers from the seventh on.
 use Prim.Native.Nat.{ℕ, _+_, _-_, _≤_}
 use mathlib.Core.Path.{_≡_, _∙_, sym}
 use mathlib.Core.List.{List, [], append-nil}
@@ -14,15 +14,15 @@ abbrev zeros : List ℕ
 zeros = replicate 134 0
 
 abbrev Inv-loop : tie.InvT-loop
-Inv-loop m₀ n i₀ m i = (4 ≤ i) × ((i ≤ 138) × Laid 4 zeros m₀ m (i - 4))
+Inv-loop m₀ n i₀ m i = (6 ≤ i) × ((i ≤ 140) × Laid 6 zeros m₀ m (i - 6))
 
 abbrev μ-loop : tie.MeasureT-loop
-μ-loop m₀ n i₀ m i = 138 - i
+μ-loop m₀ n i₀ m i = 140 - i
 
 loop-holds : tie.Need-loop-holds Inv-loop μ-loop
 loop-holds c =
     let m = now (c .before .before .args .m) in
-    (omega arith, (omega arith, laid-none 4 zeros m (omega (arith, c .whole .ensures .1))))
+    (omega arith, (omega arith, laid-none 6 zeros m (omega (arith, c .whole .ensures .1))))
 
 loop-again : tie.Need-loop-again Inv-loop μ-loop
 loop-again c =
@@ -30,19 +30,19 @@ loop-again c =
     let w = l .before in
     let m = now (w .before .before .args .m) in
     let i = l .loop .i in
-    let low : 4 ≤ i = l .loop .inv .0 in
-    let e : 4 + (i - 4) ≡ i = omega arith in
-    let f : getD zeros (i - 4) 0 ≡ 0 = getD-replicate 134 (i - 4) 0 0 (omega arith) in
-    let g : (i + 1) - 4 ≡ (i - 4) + 1 = omega arith in
-    (omega arith, (omega arith, rw g (rw (f, e) at (laid-more 4 zeros m (omega (arith, w .whole .ensures .1)) {i = i - 4} (omega arith) (l .loop .inv .1 .1)))))
+    let low : 6 ≤ i = l .loop .inv .0 in
+    let e : 6 + (i - 6) ≡ i = omega arith in
+    let f : getD zeros (i - 6) 0 ≡ 0 = getD-replicate 134 (i - 6) 0 0 (omega arith) in
+    let g : (i + 1) - 6 ≡ (i - 6) + 1 = omega arith in
+    (omega arith, (omega arith, rw g (rw (f, e) at (laid-more 6 zeros m (omega (arith, w .whole .ensures .1)) {i = i - 6} (omega arith) (l .loop .inv .1 .1)))))
 
 returns : tie.Need-returns Inv-loop μ-loop
 returns c =
     let l = c .before in
     let w = l .before in
     let m = now (w .before .before .args .m) in
-    let d : drop 138 m ≡ [] = drop-of-length-le m {i = 138} (omega (arith, w .whole .ensures .1)) in
-    laid-all 4 zeros m (omega (arith, w .whole .ensures .1)) {i = l .loop .i - 4} (l .loop .inv .1 .1) (omega arith) ∙ rw d
+    let d : drop 140 m ≡ [] = drop-of-length-le m {i = 140} (omega (arith, w .whole .ensures .1)) in
+    laid-all 6 zeros m (omega (arith, w .whole .ensures .1)) {i = l .loop .i - 6} (l .loop .inv .1 .1) (omega arith) ∙ rw d
 
 pub clear-spec : {M : Type 1} → statement M
 clear-spec =
