@@ -54,6 +54,10 @@ no-low : (t u : Bool) → both t (both false u) ≡ false
 no-low true u = refl
 no-low false u = refl
 
+-- two values of digits: their byte fits
+pub fits : (x y : ℕ) → either (ltb 15 x) (ltb 15 y) ≡ false → (x ≤ 15) × (y ≤ 15)
+fits x y t = (ltb-false 15 x (either-left (ltb 15 x) (ltb 15 y) t), ltb-false 15 y (either-right (ltb 15 x) (ltb 15 y) t))
+
 module _ {line bytes : List ℕ} {i : ℕ} (v : PairsLeft line bytes i) where
   pub ends : recordSize ≤ i → aRecord bytes ≡ recordOf line
   unfolding recordOf allDigits bytesOf
@@ -78,22 +82,18 @@ module _ {line bytes : List ℕ} {i : ℕ} (v : PairsLeft line bytes i) where
           (λ g. v .digits ∙ ap allDigits pair ∙ rw (no-digit (low line i) y f g) (no-low (isDigit (high line i)) (allDigits (drop (2 * (i + 1)) line)))) in
           rw (eq-eqb (length line) digitCount (v .size), d)
 
-      module _ (t : either (ltb 15 x) (ltb 15 y) ≡ false) where
-        pub fits : (x ≤ 15) × (y ≤ 15)
-        fits = (ltb-false 15 x (either-left (ltb 15 x) (ltb 15 y) t), ltb-false 15 y (either-right (ltb 15 x) (ltb 15 y) t))
-
-        pub goes-on : PairsLeft line (set bytes i (16 * x + y)) (i + 1)
-        unfolding allDigits bytesOf
-        goes-on =
-            let p = a-digit (high line i) x e (either-left (ltb 15 x) (ltb 15 y) t) in
-            let q = a-digit (low line i) y f (either-right (ltb 15 x) (ltb 15 y) t) in
-            record {
-              size = v .size;
-              room = simp length-set (v .room);
-              passed = omega arith;
-              digits = v .digits ∙ ap allDigits pair ∙ rw (p, q);
-              same = v .same ∙ rw (pair, e, f, add-one i, take-suc-set bytes i (byteOf (high line i) (low line i)) (omega (arith, v .room)), append-assoc);
-            }
+      pub goes-on : either (ltb 15 x) (ltb 15 y) ≡ false → PairsLeft line (set bytes i (16 * x + y)) (i + 1)
+      unfolding allDigits bytesOf
+      goes-on t =
+          let p = a-digit (high line i) x e (either-left (ltb 15 x) (ltb 15 y) t) in
+          let q = a-digit (low line i) y f (either-right (ltb 15 x) (ltb 15 y) t) in
+          record {
+            size = v .size;
+            room = simp length-set (v .room);
+            passed = omega arith;
+            digits = v .digits ∙ ap allDigits pair ∙ rw (p, q);
+            same = v .same ∙ rw (pair, e, f, add-one i, take-suc-set bytes i (byteOf (high line i) (low line i)) (omega (arith, v .room)), append-assoc);
+          }
 
 -- The line of a record
 

@@ -33,20 +33,10 @@ returns-2 c =
     c .no-record2 .ensures ∙ stops (l .before .loop .inv) (l .loop-test .taken) (x .value .ensures) (y .value2 .ensures) (c .before .if2 .taken)
 
 mul-bytes : tie.Need-mul-bytes Inv-loop μ-loop
-mul-bytes c =
-    let y = c .before in
-    let x = y .before .before in
-    let l = x .before .before in
-    let h = fits (l .before .loop .inv) (l .loop-test .taken) (x .value .ensures) (y .value2 .ensures) (c .if2 .left) in
-    search needs
+mul-bytes c = let h = fits (c .before .before .before .value .result) (c .before .value2 .result) (c .if2 .left) in search needs
 
 add-bytes : tie.Need-add-bytes Inv-loop μ-loop
-add-bytes c =
-    let y = c .before in
-    let x = y .before .before in
-    let l = x .before .before in
-    let h = fits (l .before .loop .inv) (l .loop-test .taken) (x .value .ensures) (y .value2 .ensures) (c .if2 .left) in
-    search needs
+add-bytes c = let h = fits (c .before .before .before .value .result) (c .before .value2 .result) (c .if2 .left) in search needs
 
 loop-again : tie.Need-loop-again Inv-loop μ-loop
 loop-again c =
