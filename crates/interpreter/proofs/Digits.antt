@@ -1,11 +1,11 @@
--- The bytes of three numbers, with a column and a byte added, are those of a record.
-use Prim.Native.Nat.{ℕ, _+_, _*_, _/_, _%_, _≤_}
+-- The bytes of three numbers, with a column's k-th byte added, are those of a record.
+use Prim.Native.Nat.{ℕ, _+_, _*_, _-_, _/_, _%_, _≤_}
 use mathlib.Core.Path.{_≡_}
 use native.Mathlib.Omega.{arith}
 use Rattle.printer.specs.Records.{markLow, markHigh, encoded}
 use Rattle.printer.specs.declared.records.Mark.{Mark}
 use Rattle.printer.specs.declared.records.Record.{Record}
-use Rattle.interpreter.specs.Series.{likeAt, blankOf, digits}
+use Rattle.interpreter.specs.Series.{ofPart, likeAt, blankOf, headAt, digits}
 
 mark-low : (m : Mark) → markLow m ≤ 255
 mark-low Mark.Tx = omega arith
@@ -22,10 +22,10 @@ mark-high Mark.Cl = omega arith
 mark-high Mark.No = omega arith
 
 module _
-    (v : Record) (column b : ℕ) (hf : v .font ≤ 255) (hs : v .style ≤ 65535) (hc : v .country ≤ 255)
+    (v : Record) (k column b : ℕ) (hf : v .font + (k - 1) ≤ 255) (hs : v .style ≤ 65535) (hc : v .country ≤ 255)
     (hd : column ≤ 65535) (hb : b ≤ 255) where
   abbrev H : ℕ
-  H = blankOf v .head + 65536 * column + 281474976710656 * b
+  H = headAt (blankOf v) k column b
 
   abbrev T : ℕ
   T = blankOf v .tail
@@ -51,7 +51,7 @@ module _
   h6 : H / 281474976710656 % 256 ≡ b
   h6 = omega (arith, mark-low (v .mark), mark-high (v .mark))
 
-  h7 : H / 72057594037927936 % 256 ≡ v .font
+  h7 : H / 72057594037927936 % 256 ≡ v .font + (k - 1)
   h7 = omega (arith, mark-low (v .mark), mark-high (v .mark))
 
   t0 : T % 256 ≡ v .style % 256
@@ -66,6 +66,6 @@ module _
   t3 : T / 16777216 % 256 ≡ 0
   t3 = omega arith
 
-  pub blank-bytes : digits H T (blankOf v .advance) ≡ encoded (likeAt v column b)
+  pub blank-bytes : digits H T (blankOf v .advance) ≡ encoded (likeAt (ofPart v k) column b)
   unfolding encoded
   blank-bytes = rw (h0, h1, h2, h3, h4, h5, h6, h7, t0, t1, t2, t3)

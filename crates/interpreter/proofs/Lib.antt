@@ -3,10 +3,8 @@ pub mod Setting
 pub mod Outcomes
 pub mod Digits
 pub mod SeriesLoop
-pub mod ColumnsLoop
 pub mod Runs
 pub mod Following
-pub mod Parts
 pub mod Stepping
 pub mod Shifts
 pub mod Taken

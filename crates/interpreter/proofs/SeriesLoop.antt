@@ -1,83 +1,190 @@
 -- The loop that places a series of bytes.
-use Prim.Native.Nat.{ℕ, suc, _+_, _*_, _-_, _/_, _%_, _≤_, _<_}
+use Prim.Native.Nat.{ℕ, zero, suc, _+_, _*_, _-_, _/_, _%_, _≤_, _<_}
 use mathlib.Core.Path.{_≡_, refl, ap, _∙_}
-use mathlib.Core.Bool.{true}
+use mathlib.Core.Bool.{Bool, true, false}
 use mathlib.Core.List.{List, [], _∷_, _++_}
-use native.Mathlib.Nat.{zero-mul, suc-mul, add-zero, sub-zero, one-mul, mul-one, add-mul, mul-le-mul-left, mul-le-mul-right, mod-eq-of-lt}
+use native.Mathlib.Nat.{zero-mul, suc-mul, add-zero, sub-zero, mul-one, one-mul, add-mul, mul-le-mul-left, mul-le-mul-right, mod-eq-of-lt}
 use native.Mathlib.Numerals.{add-one}
 use native.Mathlib.Omega.{arith}
+use lib.Dec.{eqb}
 use lib.ListN.{length, take, drop, getD, set}
 use lib.Seq.{take-suc, length-take-le, set-getD}
+use borrow.Author.Tests.{eqb-true, eqb-false}
+use Rattle.printer.specs.Tools.{pick}
 use Rattle.printer.specs.Records.{recordSize, encodedAll}
 use Rattle.printer.specs.declared.records.Record.{Record}
 use Rattle.printer.specs.Units.{rounded}
 use Rattle.printer.proofs.Choices.{each-append}
 use Rattle.printer.proofs.CodeLaws.{product}
-use Rattle.interpreter.specs.Output.{Written}
 use Rattle.framing.specs.Letters.{printsFrom}
-use Rattle.interpreter.specs.Series.{likeAt, placedAll, blankOf, AllPrint}
+use Rattle.interpreter.specs.Output.{Written}
+use Rattle.interpreter.specs.Series.{ofPart, likeAt, placedAll, AllPrint, Reached, OnLine, spotAfter, blankOf}
 use Rattle.interpreter.specs.declared.series.Blank.{Blank}
+use Rattle.interpreter.specs.declared.series.Spot.{Spot}
 use Rattle.interpreter.specs.Taking.{Fits}
 use Rattle.interpreter.proofs.Writes.{none, more, same-length}
 
--- the numbers that the types of a record's fields bound
-pub record Narrow (v : Record) : Type 0 where
-  pub font : v .font ≤ 255
+-- by a test, wherever it is asked
+pub by-test : (P : Bool → Type 0) (t : Bool) → (t ≡ true → P true) → (t ≡ false → P false) → P t
+by-test P true f g = f refl
+by-test P false f g = g refl
+
+-- Columns
+
+-- a product that is not 0 is of numbers that are not
+pub some-times : (n bytes : ℕ) → 0 < n * bytes → 0 < n
+some-times zero bytes h = absurd (omega (arith, h, zero-mul bytes))
+some-times (suc n) bytes h = omega arith
+
+-- one column less
+pub one-less : (n bytes : ℕ) → 0 < n → n * bytes ≡ (n - 1) * bytes + bytes
+one-less n bytes h =
+    let e : suc (n - 1) ≡ n = omega arith in
+    rw e at (suc-mul (n - 1) bytes)
+
+module _ {done part n bytes k : ℕ} (s : Reached done part n bytes k) where
+  -- the spot after one byte more
+  reached-next : Reached (pick (eqb part bytes) (done + 1) done) (pick (eqb part bytes) 1 (part + 1)) (n + 1) bytes k
+  reached-next =
+      by-test (λ (t : Bool). Reached (pick t (done + 1) done) (pick t 1 (part + 1)) (n + 1) bytes k) (eqb part bytes)
+      (λ e. let z : part ≡ bytes = eqb-true part bytes e in
+      let m : (done + 1) * bytes ≡ done * bytes + bytes = rw (add-one, suc-mul) in
+      record { counted = omega (arith, s .counted, z, m); low = omega arith; high = omega (arith, s .low, z) })
+      (λ e. let z = eqb-false part bytes e in
+      record { counted = omega (arith, s .counted); low = omega arith; high = omega (arith, s .high, z) })
+
+  -- no byte, no column
+  pub none-done : n ≡ 0 → k ≤ bytes → done ≡ 0
+  none-done e h = go done (s .counted)
+    where
+      go : (j : ℕ) → j * bytes + part ≡ n + k → j ≡ 0
+      go zero f = refl
+      go (suc j) f = absurd (omega (arith, f, suc-mul j bytes, s .low, e))
+
+  -- of one byte each there are as many as bytes
+  pub one-each : bytes ≡ 1 → k ≡ 1 → (done ≡ n) × (part ≡ 1)
+  one-each e f =
+      let p : part ≡ 1 = omega (arith, s .low, s .high, e) in
+      (omega (arith, rw (e, mul-one) at (s .counted), p, f), p)
+
+  module _ {x step right : ℕ} (f : OnLine n bytes k x step right) (h : (1 ≤ k) × (k ≤ bytes)) where
+    -- the columns done are within those of the line
+    pub done-few : done ≤ f .whole
+    done-few = go n refl
+      where
+        least : (whole j : ℕ) → j * bytes ≤ whole * bytes → j ≤ whole
+        least whole zero c = omega arith
+        least zero (suc j) c = absurd (omega (arith, c, suc-mul j bytes, zero-mul bytes, h))
+        least (suc whole) (suc j) c = omega (arith, least whole j (omega (arith, c, suc-mul j bytes, suc-mul whole bytes)))
+
+        go : (j : ℕ) → n ≡ j → done ≤ f .whole
+        go zero e = omega (arith, none-done e (h .1))
+        go (suc j) e = least (f .whole) done (omega (arith, s .counted, s .low, f .enough, h .0, e))
+
+    pub done-within : x + done * step ≤ right
+    done-within = let m : done * step ≤ f .whole * step = mul-le-mul-right step done-few in omega (arith, f .in-margin, m)
+
+-- a column's last byte, before others: they are from the next column on
+pub after-column : {done part n bytes k : ℕ} → Reached done part (suc n) bytes k → k ≡ bytes → Reached (done - 1) part n bytes 1 × (0 < done)
+after-column {done} {bytes = bytes} s e =
+    let d : 0 < done = some-times done bytes (omega (arith, s .counted, s .high, e)) in
+    let m = one-less done bytes d in
+    (record { counted = omega (arith, s .counted, e, m); low = s .low; high = s .high }, d)
+
+-- one byte more
+placed-more : (v : Record) (d step bytes : ℕ) (l : List ℕ) (x k done part b : ℕ) → (1 ≤ k) × (k ≤ bytes) → Reached done part (length l) bytes k
+    → placedAll v d x step bytes k (l ++ (b ∷ []))
+    ≡ placedAll v d x step bytes k l ++ (likeAt (ofPart v part) (rounded d (x + done * step)) b ∷ [])
+unfolding placedAll
+placed-more v d step bytes [] x k done part b h s =
+    let e : done ≡ 0 = none-done s refl (h .1) in
+    let f : part ≡ k = omega (arith, s .counted, rw (e, zero-mul) at (s .counted)) in
+    rw (e, f, zero-mul, add-zero)
+placed-more v d step bytes (a ∷ l) x k done part b h s =
+    ap (λ (r : List Record). likeAt (ofPart v k) (rounded d x) a ∷ r)
+    (by-test
+    (λ (t : Bool). placedAll v d (pick t (x + step) x) step bytes (pick t 1 (suc k)) (l ++ (b ∷ []))
+    ≡ placedAll v d (pick t (x + step) x) step bytes (pick t 1 (suc k)) l ++ (likeAt (ofPart v part) (rounded d (x + done * step)) b ∷ []))
+    (eqb k bytes)
+    (λ e. let q = after-column s (eqb-true k bytes e) in
+    let p : x + step + (done - 1) * step ≡ x + done * step = omega (arith, one-less done step (q .1)) in
+    rw (← p) (placed-more v d step bytes l (x + step) 1 (done - 1) part b (omega arith, omega (arith, h)) (q .0)))
+    (λ e. let z = eqb-false k bytes e in
+    placed-more v d step bytes l x (suc k) done part b (omega arith, omega (arith, h .1, z))
+    (record { counted = omega (arith, s .counted); low = s .low; high = s .high })))
+
+-- The loop
+
+-- the numbers that a record's fields and the bytes of a column bound
+pub record Narrow (v : Record) (bytes : ℕ) : Type 0 where
+  pub fonts : v .font + bytes ≤ 256
   pub style : v .style ≤ 65535
   pub country : v .country ≤ 255
 
-placed-more : (v : Record) (d x step : ℕ) (l : List ℕ) (b : ℕ)
-    → placedAll v d x step (l ++ (b ∷ [])) ≡ placedAll v d x step l ++ (likeAt v (rounded d (x + length l * step)) b ∷ [])
-unfolding placedAll
-placed-more v d x step [] b = rw (zero-mul, add-zero)
-placed-more v d x step (a ∷ l) b =
-    let p : x + suc (length l) * step ≡ x + step + length l * step = omega (arith, suc-mul (length l) step) in
-    rw p (ap (λ (k : List Record). likeAt v (rounded d x) a ∷ k) (placed-more v d (x + step) step l b))
-
--- what the loop begins with: a record but for its column and its byte, a step in parts of a dot, and an exact place
-pub record Begun (v : Record) (d x step most : ℕ) (blank : Blank) (by exact : ℕ) : Type 0 where
+-- what the loop begins with: a record but for its column and its byte, a step in parts of a dot, an exact place, and a byte of a column
+pub record Begun (v : Record) (d x step bytes k most : ℕ) (blank : Blank) (by : ℕ) (s : Spot) : Type 0 where
   pub like : blank ≡ blankOf v
-  pub narrow : Narrow v
-  pub each : by ≡ step * d
-  pub start : exact ≡ x * d + 1800
-  pub on-line : x + most * step ≤ 28800
+  pub narrow : Narrow v bytes
+  pub each : by ≡ step * d % 4294967296
+  pub start : s .exact .0 ≡ x * d + 1800
+  pub spot : (s .part ≡ k) × (s .done ≡ 0)
+  pub from : (1 ≤ k) × (k ≤ bytes)
+  pub moves : 0 < step
+  pub on-line : OnLine most bytes k x step 28800
 
 -- the invariant: the first bytes are placed, and print
-pub record Placing (v : Record) (from d x step : ℕ) (input out₀ out : List ℕ) (exact n at : ℕ) : Type 0 where
+pub record SoFar (v : Record) (from d x step bytes k : ℕ) (input out₀ out : List ℕ) (s : Spot) (n at : ℕ) : Type 0 where
   pub within : n ≤ length input
-  pub place : exact ≡ (x + n * step) * d + 1800
+  pub reached : Reached (s .done) (s .part) n bytes k
+  pub place : s .exact .0 ≡ (x + s .done * step) * d + 1800
   pub written : at ≡ recordSize * n
   pub printed : AllPrint from (take n input)
-  pub wrote : Written out₀ 0 (placedAll v d x step (take n input)) at out
+  pub wrote : Written out₀ 0 (placedAll v d x step bytes k (take n input)) at out
 
-pub begins : (v : Record) (from d x step : ℕ) (input out : List ℕ) {exact : ℕ} → exact ≡ x * d + 1800
-    → Placing v from d x step input out out exact 0 0
+pub begins : {v : Record} {from d x step bytes k most : ℕ} {input out : List ℕ} {blank : Blank} {by : ℕ} {s : Spot}
+    → Begun v d x step bytes k most blank by s → SoFar v from d x step bytes k input out out s 0 0
 unfolding placedAll
-begins v from d x step input out e =
+begins {d = d} {x = x} {step = step} {bytes = bytes} {k = k} {out = out} {s = s} b =
     record {
       within = omega arith;
-      place = e ∙ rw (zero-mul, add-zero);
+      reached = rw (b .spot .0, b .spot .1) (record { counted = rw zero-mul; low = b .from .0; high = b .from .1 });
+      place = b .start ∙ rw (b .spot .1, zero-mul, add-zero);
       written = omega arith;
       printed = tt;
       wrote = none out 0;
     }
 
 module _
-    {v : Record} {from d x step : ℕ} {input out₀ out : List ℕ} {exact n at : ℕ}
-    (g : Placing v from d x step input out₀ out exact n at) (room : recordSize * length input ≤ length out₀) where
+    {v : Record} {from d x step bytes k : ℕ} {input out₀ out : List ℕ} {blank : Blank} {by : ℕ} {s₀ s : Spot} {n at : ℕ}
+    (g : SoFar v from d x step bytes k input out₀ out s n at) (b : Begun v d x step bytes k (length input) blank by s₀)
+    (dots : d ≤ 300) (room : recordSize * length input ≤ length out₀) where
   fits : at ≤ length out₀
   fits = omega (arith, g .written, g .within)
 
   pub long : length out ≡ length out₀
   long = same-length (g .wrote) fits
 
-  on-line : x + length input * step ≤ 28800 → d ≤ 300 → (k : ℕ) → k ≤ length input → (x + k * step) * d ≤ 8640000
-  on-line h f k w =
-      let m : k * step ≤ length input * step = mul-le-mul-right step w in
-      product _ _ 28800 300 (omega arith) f
+  -- so many bytes are of columns on the line
+  shorter : (j : ℕ) → j ≤ length input → OnLine j bytes k x step 28800
+  shorter j h =
+      let f = b .on-line in
+      record { whole = f .whole; enough = omega (arith, f .enough); in-margin = f .in-margin }
 
-  pub bound : x + length input * step ≤ 28800 → d ≤ 300 → exact ≤ 8641800
-  bound h f = omega (arith, on-line h f n (g .within), g .place)
+  -- a place on the line, in parts of a dot
+  on-line : (j : ℕ) → x + j * step ≤ 28800 → (x + j * step) * d ≤ 8640000
+  on-line j h = product _ _ 28800 300 h dots
+
+  line-so-far : x + s .done * step ≤ 28800
+  line-so-far = done-within (g .reached) (shorter n (g .within)) (b .from)
+
+  pub bound : s .exact .0 ≤ 8641800
+  bound = omega (arith, on-line (s .done) line-so-far, g .place)
+
+  -- so few columns are done
+  pub few : s .done ≤ 28800
+  few =
+      let m : s .done ≤ s .done * step = rw mul-one at (mul-le-mul-left (s .done) (b .moves)) in
+      omega (arith, line-so-far, m)
 
   module _ (some : n < length input) where
     next : take (n + 1) input ≡ take n input ++ (getD input n 0 ∷ [])
@@ -86,20 +193,37 @@ module _
     pub room-enough : at + recordSize ≤ length out
     room-enough = omega (arith, long, g .written)
 
-    pub goes-on : {r : Record} {out′ : List ℕ} {by exact′ : ℕ} → x + length input * step ≤ 28800 → d ≤ 300
-        → by ≡ step * d → exact′ ≡ (exact + by) % 4294967296 → printsFrom from (getD input n 0) ≡ true
-        → r ≡ likeAt v (exact / 3600) (getD input n 0) → Written out at (r ∷ []) (at + recordSize) out′
-        → Placing v from d x step input out₀ out′ exact′ (n + 1) (at + recordSize)
-    goes-on {r} {by = by} h f j q e k w =
-        let p : x + (n + 1) * step ≡ x + n * step + step = omega (arith, suc-mul n step, add-one n) in
-        let u : exact + by ≡ (x + (n + 1) * step) * d + 1800 = rw p (omega (arith, j, g .place, add-mul (x + n * step) step d)) in
+    -- the exact place after the byte
+    place-after : pick (eqb (s .part) bytes) ((s .exact .0 + by) % 4294967296) (s .exact .0)
+        ≡ (x + pick (eqb (s .part) bytes) (s .done + 1) (s .done) * step) * d + 1800
+    place-after =
+        let after = done-within (reached-next (g .reached)) (shorter (n + 1) (omega arith)) (b .from) in
+        by-test
+        (λ (t : Bool). x + pick t (s .done + 1) (s .done) * step ≤ 28800
+        → pick t ((s .exact .0 + by) % 4294967296) (s .exact .0) ≡ (x + pick t (s .done + 1) (s .done) * step) * d + 1800)
+        (eqb (s .part) bytes)
+        (λ _ h.
+        let i : x + (s .done + 1) * step ≡ x + s .done * step + step = omega (arith, suc-mul (s .done) step, add-one (s .done)) in
+        let j : by ≡ step * d = b .each ∙ mod-eq-of-lt (omega (arith, product step d 28800 300 (omega (arith, i, h)) dots)) in
+        let a : s .exact .0 + by ≡ (x + (s .done + 1) * step) * d + 1800 =
+        rw i (omega (arith, j, g .place, add-mul (x + s .done * step) step d)) in
+        mod-eq-of-lt (omega (arith, a, on-line (s .done + 1) h)) ∙ a)
+        (λ _ _. g .place) after
+
+    pub goes-on : {r : Record} {out′ : List ℕ} → printsFrom from (getD input n 0) ≡ true
+        → r ≡ likeAt (ofPart v (s .part)) (s .exact .0 / 3600) (getD input n 0) → Written out at (r ∷ []) (at + recordSize) out′
+        → SoFar v from d x step bytes k input out₀ out′ (spotAfter s by bytes) (n + 1) (at + recordSize)
+    goes-on {r} e q w =
         let c : length (take n input) ≡ n = length-take-le n input (g .within) in
         record {
           within = omega arith;
-          place = q ∙ mod-eq-of-lt (omega (arith, u, on-line h f (n + 1) (omega arith))) ∙ u;
+          reached = reached-next (g .reached);
+          place = place-after;
           written = omega (arith, g .written);
           printed = rw next (each-append (λ b. printsFrom from b ≡ true) (take n input) (getD input n 0 ∷ []) (g .printed) (e, tt));
-          wrote = rw (next, placed-more v d x step (take n input) (getD input n 0), c, ← g .place, ← k) (more (g .wrote) fits w);
+          wrote =
+              rw (next, placed-more v d step bytes (take n input) x k (s .done) (s .part) (getD input n 0) (b .from) (rw c (g .reached)), ← g .place, ← q)
+              (more (g .wrote) fits w);
         }
 
 -- A part of the input
@@ -110,28 +234,24 @@ part-same n l = rw sub-zero
 pub part-length : (n : ℕ) (l : List ℕ) → n ≤ length l → length (take (n - 0) (drop 0 l)) ≡ n
 part-length n l h = rw part-same (length-take-le n l h)
 
--- some steps, each of a length, are no fewer than one of them, and than their number
-pub one-step : (n step : ℕ) → 0 < n → step ≤ n * step
-one-step n step h = rw one-mul at (mul-le-mul-right step h)
+-- fewer bytes are on the line, and fit, too
+pub fewer-line : {n most bytes k across step right : ℕ} → OnLine most bytes k across step right → n ≤ most → OnLine n bytes k across step right
+fewer-line f h = record { whole = f .whole; enough = omega (arith, f .enough); in-margin = f .in-margin }
 
-pub step-each : (n step : ℕ) → 0 < step → n ≤ n * step
-step-each n step h = rw mul-one at (mul-le-mul-left n h)
+-- the right margin is on the paper
+pub on-paper : {n bytes k across step right : ℕ} → OnLine n bytes k across step right → right ≤ 28800 → OnLine n bytes k across step 28800
+on-paper f h = record { whole = f .whole; enough = f .enough; in-margin = omega (arith, f .in-margin) }
 
--- fewer bytes fit too
-pub fewer-fit : {n most input room across step right : ℕ} → Fits most input room across step right → n ≤ most
-    → Fits n input room across step right
-fewer-fit {n} {most} {input} {room} {across} {step} {right} f h =
-    let k : n * step ≤ most * step = mul-le-mul-right step h in
+pub fewer-fit : {n most bytes k columns input room across step right : ℕ} → Fits most bytes k columns input room across step right → n ≤ most
+    → Fits n bytes k columns input room across step right
+unfolding fewer-line
+fewer-fit f h =
     record {
+      line = fewer-line (f .line) h;
+      some-columns = f .some-columns;
       some-input = omega (arith, f .some-input);
       some-room = omega (arith, f .some-room);
-      in-margin = omega (arith, f .in-margin);
     }
-
--- where there is more input, so many fit too
-pub more-input : {n some input room across step right : ℕ} → Fits n some room across step right → some ≤ input
-    → Fits n input room across step right
-more-input f h = record { some-input = omega (arith, f .some-input); some-room = f .some-room; in-margin = f .in-margin }
 
 -- Where none is placed, nothing changes
 

@@ -4,12 +4,14 @@ use mathlib.Core.Path.{_≡_, refl, sym, _∙_}
 use mathlib.Core.Bool.{Bool, true, false}
 use mathlib.Core.List.{List, [], _∷_, append-nil}
 use native.Mathlib.Omega.{arith}
+use lib.Dec.{eqb}
 use lib.ListN.{length, take, getD, set}
 use lib.Seq.{length-take-le}
+use Rattle.printer.specs.Tools.{pick}
 use Rattle.printer.specs.Units.{perInchAcross}
-use Rattle.printer.specs.Framing.{imageWait}
 use Rattle.printer.specs.Records.{recordSize, roomForByte, letterRecord, imageRecord}
 use Rattle.printer.specs.Settings.{advanceOf}
+use Rattle.printer.specs.Performing.{columnPart}
 use Rattle.printer.specs.Steps.{stateAfter, recordsOver}
 use Rattle.printer.specs.Widths.{base, doubleWidth, advance, imageStep, imageBytes}
 use Rattle.printer.specs.declared.commands.ImageMode.{ImageMode}
@@ -20,18 +22,18 @@ use Rattle.printer.specs.declared.settings.Width.{Width}
 use Rattle.printer.specs.declared.state.Printer.{Printer}
 use Rattle.printer.specs.declared.units.Resolution.{Resolution}
 use Rattle.printer.proofs.Choices.{pick-elim}
+use Rattle.printer.proofs.Modes.{bytes-within}
 use Rattle.registers.specs.declared.pending.Pending.{Pending}
 use Rattle.registers.specs.Groups.{isSet}
 use Rattle.registers.specs.Layout.{laid, words}
 use Rattle.registers.proofs.Reading.{advance-held, upper-held}
 use Rattle.interpreter.specs.declared.steps.Stepping.{Stepping}
 use Rattle.interpreter.specs.Output.{Written}
-use Rattle.interpreter.specs.Series.{placedAll}
-use Rattle.interpreter.specs.Columns.{partsWait, columnsAll, Spot, FitParts}
+use Rattle.interpreter.specs.Series.{placedAll, Reached, columnsWait}
 use Rattle.interpreter.specs.Taking.{Current, Fits, Letters, RoomForEach, StepPromise, afterByte, TurnPromise}
 use Rattle.interpreter.proofs.Places.{across-held, right-held, across-stored}
-use Rattle.interpreter.proofs.Following.{AreRead, placed-like, some-columns, letters-read, images-read}
-use Rattle.interpreter.proofs.Parts.{columns-like, parts-read}
+use Rattle.interpreter.proofs.SeriesLoop.{by-test, one-each, done-within}
+use Rattle.interpreter.proofs.Following.{AreRead, placed-like, some-columns, letters-read, columns-read}
 
 pub byte-taken : {p : Printer} {v : Pending} {input out m after : List ℕ} {back : Stepping} {left : ℕ}
     → 0 < length input → roomForByte ≤ length out → StepPromise p v (getD input 0 0) back m out 0 after
@@ -75,19 +77,11 @@ advance-positive w =
     (λ _. omega (arith, base-positive (w .pitch) (w .reduced) (w .proportional)))
     (λ _. omega (arith, base-positive (w .pitch) (w .reduced) (w .proportional)))
 
--- a column has one byte or three
-pub three-bytes : (m : ImageMode) → (imageBytes m ≡ 1 → ⊥) → imageBytes m ≡ 3
-three-bytes ImageMode.Single h = absurd (h refl)
-three-bytes ImageMode.Double h = absurd (h refl)
-three-bytes ImageMode.DoubleSpeed h = absurd (h refl)
-three-bytes ImageMode.Quadruple h = absurd (h refl)
-three-bytes ImageMode.Crt80 h = absurd (h refl)
-three-bytes ImageMode.Crt90 h = absurd (h refl)
-three-bytes ImageMode.Single24 h = refl
-three-bytes ImageMode.Double24 h = refl
-three-bytes ImageMode.Crt24 h = refl
-three-bytes ImageMode.Triple24 h = refl
-three-bytes ImageMode.Hex24 h = refl
+-- the numbers that the bytes of a column bear are bytes
+pub image-fonts : (m : ImageMode) → columnPart m 1 + imageBytes m ≤ 256
+image-fonts m =
+    by-test (λ (t : Bool). pick t 0 1 + imageBytes m ≤ 256) (eqb (imageBytes m) 1)
+    (λ _. omega (arith, bytes-within m)) (λ _. omega (arith, bytes-within m))
 
 dots-few : (r : Resolution) → perInchAcross r ≤ 300
 dots-few Resolution.Dots300 = omega arith
@@ -120,56 +114,46 @@ module _ {p : Printer} {v : Pending} {w : Waiting} {m : List ℕ} (h : Current p
       (b .0, (b .1 .1 .0, b .1 .1 .1 .0))
 
   module _ {input out after : List ℕ} {n : ℕ} (left : ℕ) {r : Record} where
-    pub letters-taken : w ≡ Waiting.Nothing → Fits n (length input) (length out) (getD m 6 0) (getD m 38 0) (getD m 9 0)
-        → Letters (isSet (getD m 36 0)) (take n input) → r ≡ letterRecord (p .settings) (p .place) 0 (advanceOf (p .settings))
-        → Written out 0 (placedAll r (getD m 13 0) (getD m 6 0) (getD m 38 0) (take n input)) (recordSize * n) after
+    pub letters-taken : {columns done part : ℕ} → w ≡ Waiting.Nothing
+        → Fits n 1 1 columns (length input) (length out) (getD m 6 0) (getD m 38 0) (getD m 9 0)
+        → Letters (isSet (getD m 36 0)) (take n input) → Reached done part n 1 1
+        → r ≡ letterRecord (p .settings) (p .place) 0 (advanceOf (p .settings))
+        → Written out 0 (placedAll r (getD m 13 0) (getD m 6 0) (getD m 38 0) 1 1 (take n input)) (recordSize * n) after
         → TurnPromise p v input out (record { waiting = Waiting.Nothing; read = n; written = recordSize * n; left = left })
-        (set m 6 (getD m 6 0 + n * getD m 38 0)) after
-    letters-taken e f l k g =
+        (set m 6 (getD m 6 0 + done * getD m 38 0)) after
+    letters-taken e f l s k g =
         let c : length (take n input) ≡ n = length-take-le n input (f .some-input) in
+        let d = one-each s refl refl .0 in
+        let on = rw d at (done-within s (f .line) (omega arith, omega arith)) in
         let a = letters-read (take n input) p (length out) (sym (h .waits) ∙ e) (rw (upper-held (h .held)) at l)
-        (rw c (rw (across-held (h .held), advance-held (h .held), right-held (h .held)) at (f .in-margin))) (rw c (f .some-room)) in
-        rw (across-held (h .held), advance-held (h .held))
+        (rw c (rw (across-held (h .held), advance-held (h .held), right-held (h .held)) at on)) (rw c (f .some-room)) in
+        rw (d, across-held (h .held), advance-held (h .held))
         (bytes-taken (f .some-input) (rw c at a) (across-stored (h .held) _) (sym e ∙ h .waits)
         (rw (k, dots-held, across-held (h .held), advance-held (h .held), placed-like) at g))
 
-    pub images-taken : {mode : ImageMode} {columns : ℕ} → imageBytes mode ≡ 1 → w ≡ Waiting.ImageData mode 1 columns → n ≤ columns
-        → Fits n (length input) (length out) (getD m 6 0) (imageStep mode) (getD m 9 0)
-        → r ≡ imageRecord (p .settings) (p .place) 0 0 (imageStep mode)
-        → Written out 0 (placedAll r (getD m 13 0) (getD m 6 0) (imageStep mode) (take n input)) (recordSize * n) after
-        → TurnPromise p v input out (record { waiting = imageWait mode (columns - n); read = n; written = recordSize * n; left = left })
-        (set m 6 (getD m 6 0 + n * imageStep mode)) after
-    unfolding laid
-    images-taken {mode} {columns} one e i f k g =
-        let c : length (take n input) ≡ n = length-take-le n input (f .some-input) in
-        let z : p .waiting ≡ Waiting.ImageData mode 1 columns = sym (h .waits) ∙ e in
-        let a = images-read (take n input) p mode columns (length out) one (z ∙ sym (some-columns mode 1 columns (image-bounds e .0))) (rw c i)
-        (rw c (rw (across-held (h .held), right-held (h .held)) at (f .in-margin))) (rw c (f .some-room)) in
-        rw (across-held (h .held))
-        (bytes-taken (f .some-input) (rw c at a) (across-stored (h .held) _) refl
-        (rw (k, dots-held, across-held (h .held), placed-like) at g))
-
-    pub parts-taken : {mode : ImageMode} {k columns done part : ℕ} → imageBytes mode ≡ 3 → w ≡ Waiting.ImageData mode k columns
-        → FitParts n k columns (length input) (length out) (getD m 6 0) (imageStep mode) (getD m 9 0) → 0 < n → Spot done part n k
-        → r ≡ imageRecord (p .settings) (p .place) 0 0 (imageStep mode)
-        → Written out 0 (columnsAll r (getD m 13 0) (getD m 6 0) (imageStep mode) k (take n input)) (recordSize * n) after
-        → TurnPromise p v input out (record { waiting = partsWait mode part (columns - done); read = n; written = recordSize * n; left = left })
+    pub columns-taken : {mode : ImageMode} {k columns done part : ℕ} → w ≡ Waiting.ImageData mode k columns
+        → Fits n (imageBytes mode) k columns (length input) (length out) (getD m 6 0) (imageStep mode) (getD m 9 0)
+        → Reached done part n (imageBytes mode) k → r ≡ imageRecord (p .settings) (p .place) 0 (columnPart mode 1) (imageStep mode)
+        → Written out 0 (placedAll r (getD m 13 0) (getD m 6 0) (imageStep mode) (imageBytes mode) k (take n input)) (recordSize * n) after
+        → TurnPromise p v input out (record { waiting = columnsWait mode part (columns - done); read = n; written = recordSize * n; left = left })
         (set m 6 (getD m 6 0 + done * imageStep mode)) after
     unfolding laid
-    parts-taken {mode} {k} {columns} {done} {part} three e f some s i g =
+    columns-taken {mode} {k} {columns} {done} {part} e f s i g =
         let c : length (take n input) ≡ n = length-take-le n input (f .some-input) in
         let z : p .waiting ≡ Waiting.ImageData mode k columns = sym (h .waits) ∙ e in
         let b = image-bounds e in
-        let u : k ≤ 3 = rw three at (b .1 .1) in
-        let a = parts-read (take n input) p mode k columns done part (length out) three (z ∙ sym (some-columns mode k columns (b .0)))
+        let a = columns-read (take n input) p mode k columns done part (length out) (z ∙ sym (some-columns mode k columns (b .0)))
         (record {
-          whole = f .whole;
-          from = (b .1 .0, u);
-          some = rw c (omega (arith, f .some-bytes, some, b .1 .0));
+          from = b .1;
+          line =
+              record {
+                whole = f .line .whole;
+                enough = rw c (f .line .enough);
+                in-margin = rw (across-held (h .held), right-held (h .held)) at (f .line .in-margin);
+              };
           few = f .some-columns;
-          fits = rw (across-held (h .held), right-held (h .held)) at (f .in-margin);
         })
         (rw c s) (rw c (f .some-room)) in
         rw (across-held (h .held))
         (bytes-taken (f .some-input) a (across-stored (h .held) _) refl
-        (rw (i, dots-held, across-held (h .held), columns-like) at g))
+        (rw (i, dots-held, across-held (h .held), placed-like) at g))

@@ -2,7 +2,6 @@ pub mod Output
 pub mod Outcome
 pub mod Doing
 pub mod Series
-pub mod Columns
 pub mod Calls
 pub mod Taking
 pub mod Searching

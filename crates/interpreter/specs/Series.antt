@@ -1,14 +1,38 @@
--- The records of a series of bytes on a line, each placed a step further across.
-use Prim.Native.Nat.{ℕ, _+_, _*_, _/_, _%_}
+-- The records of a series of bytes on a line. They stand in columns, of one byte or more, each a step further across than the one before: a letter
+-- is a column of one byte.
+use Prim.Native.Nat.{ℕ, suc, _+_, _*_, _-_, _/_, _%_, _≤_, _<_}
 use mathlib.Core.Path.{_≡_}
 use mathlib.Core.Bool.{true}
 use mathlib.Core.List.{List, [], _∷_}
-use Rattle.printer.specs.Tools.{Each}
+use lib.Dec.{eqb}
+use lib.ListN.{take, getD, set}
+use Rattle.printer.specs.Tools.{pick, Each}
 use Rattle.printer.specs.Units.{rounded}
-use Rattle.printer.specs.Records.{markLow, markHigh}
+use Rattle.printer.specs.Records.{markLow, markHigh, recordSize}
+use Rattle.printer.specs.declared.commands.ImageMode.{ImageMode}
+use Rattle.printer.specs.declared.commands.Waiting.{Waiting}
 use Rattle.printer.specs.declared.records.Record.{Record}
 use Rattle.framing.specs.Letters.{printsFrom}
 use Rattle.interpreter.specs.declared.series.Blank.{Blank}
+use Rattle.interpreter.specs.declared.series.Placed.{Placed}
+use Rattle.interpreter.specs.declared.series.Spot.{Spot}
+use Rattle.interpreter.specs.Output.{Written}
+
+-- Records
+
+-- the record of a column's k-th byte, like that of its first: fonts go on by one
+abbrev pub ofPart : Record → (k : ℕ) → Record
+ofPart v k =
+    record {
+      mark = v .mark;
+      column = v .column;
+      row = v .row;
+      byte = v .byte;
+      font = v .font + (k - 1);
+      style = v .style;
+      country = v .country;
+      advance = v .advance;
+    }
 
 -- a record like another, at another column and of another byte
 abbrev pub likeAt : Record → (column byte : ℕ) → Record
@@ -24,14 +48,69 @@ likeAt v column byte =
       advance = v .advance;
     }
 
--- such records for all of some bytes
-unfoldable pub placedAll : Record → (d across step : ℕ) → List ℕ → List Record
-placedAll v d x step [] = []
-placedAll v d x step (b ∷ l) = likeAt v (rounded d x) b ∷ placedAll v d (x + step) step l
+-- such records for all of some bytes, from the k-th of a column on
+unfoldable pub placedAll : Record → (d across step bytes k : ℕ) → List ℕ → List Record
+placedAll v d x step bytes k [] = []
+placedAll v d x step bytes k (b ∷ l) =
+    likeAt (ofPart v k) (rounded d x) b
+    ∷ placedAll v d (pick (eqb k bytes) (x + step) x) step bytes (pick (eqb k bytes) 1 (suc k)) l
 
 -- all of some bytes print
 abbrev pub AllPrint : (from : ℕ) → List ℕ → Type 0
 AllPrint from l = Each (λ b. printsFrom from b ≡ true) l
+
+-- Columns
+
+-- after so many bytes from the k-th of a column on, so many columns are done, and this part of one comes next
+pub record Reached (done part n bytes k : ℕ) : Type 0 where
+  pub counted : done * bytes + part ≡ n + k
+  pub low : 1 ≤ part
+  pub high : part ≤ bytes
+
+-- so many bytes from the k-th of a column on are of columns that end within the right margin
+pub record OnLine (n bytes k across step right : ℕ) : Type 0 where
+  pub whole : ℕ
+  pub enough : n ≤ whole * bytes - (k - 1)
+  pub in-margin : across + whole * step ≤ right
+
+-- the spot after a byte, where a step is so many parts of a dot
+abbrev pub spotAfter : Spot → (by bytes : ℕ) → Spot
+spotAfter s by bytes =
+    let last = eqb (s .part) bytes in
+    record {
+      exact = record { 0 = pick last ((s .exact .0 + by) % 4294967296) (s .exact .0) };
+      part = pick last 1 (s .part + 1);
+      done = pick last (s .done + 1) (s .done);
+    }
+
+-- so many columns are waited for, from the k-th byte of one; none is nothing
+abbrev pub columnsWait : ImageMode → (k columns : ℕ) → Waiting
+columnsWait m k n = pick (eqb n 0) Waiting.Nothing (Waiting.ImageData m k n)
+
+-- A run of the loop
+
+-- what it needs of the registers, a record, the columns, and how many bytes there are at most, have input, allowance and room
+pub record Placeable (m : List ℕ) (v : Record) (step bytes k most input allowance room : ℕ) : Type 0 where
+  pub moves : 0 < step
+  pub first : (1 ≤ k) × (k ≤ bytes)
+  pub fonts : v .font + bytes ≤ 256
+  pub line : OnLine most bytes k (getD m 6 0) step (getD m 9 0)
+  pub paper : (getD m 9 0 ≤ 28800) × (getD m 13 0 ≤ 300)
+  pub read : (most ≤ input) × (most ≤ allowance)
+  pub written : recordSize * most ≤ room
+
+-- what it leaves: some bytes are placed, all of which print
+pub record Placing
+    (m : List ℕ) (v : Record) (from step bytes k most : ℕ) (input out : List ℕ) (allowance : ℕ)
+    (r : Placed) (after wrote : List ℕ) : Type 0 where
+  pub few : r .count ≤ most
+  pub printed : AllPrint from (take (r .count) input)
+  pub reached : Reached (r .done) (r .part) (r .count) bytes k
+  pub moved : after ≡ set m 6 (getD m 6 0 + r .done * step)
+  pub records : Written out 0 (placedAll v (getD m 13 0) (getD m 6 0) step bytes k (take (r .count) input)) (recordSize * r .count) wrote
+  pub left : r .left + r .count ≡ allowance
+
+-- Bytes
 
 -- a record's bytes but for its column and its byte, as three numbers
 abbrev pub blankOf : Record → Blank
@@ -41,6 +120,10 @@ blankOf v =
       tail = v .style + 65536 * v .country;
       advance = v .advance .0;
     }
+
+-- with those of a column's k-th byte
+abbrev pub headAt : Blank → (k column byte : ℕ) → ℕ
+headAt blank k column b = blank .head + 72057594037927936 * (k - 1) + 65536 * column + 281474976710656 * b
 
 -- the bytes of three numbers
 abbrev pub digits : (head tail advance : ℕ) → List ℕ

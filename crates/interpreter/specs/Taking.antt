@@ -19,6 +19,7 @@ use Rattle.interpreter.specs.declared.steps.Stepping.{Stepping}
 use Rattle.interpreter.specs.declared.turn.Turned.{Turned}
 use Rattle.interpreter.specs.declared.reading.Ran.{Ran}
 use Rattle.interpreter.specs.Output.{Written}
+use Rattle.interpreter.specs.Series.{OnLine}
 
 -- registers and what is waited for are those of a state of ours; the numbers for what is waited for are not yet stored
 pub record Current (p : Printer) (v : Pending) (w : Waiting) (m : List ℕ) : Type 0 where
@@ -35,11 +36,12 @@ pub record Kept (w : Waiting) (m : List ℕ) : Type 0 where
 
 -- Bytes that follow each other
 
--- so many have input and room, and end within the right margin
-pub record Fits (n input room across step right : ℕ) : Type 0 where
+-- so many from the k-th of a column on have input and room, and are of columns that are waited for and end within the right margin
+pub record Fits (n bytes k columns input room across step right : ℕ) : Type 0 where
+  pub line : OnLine n bytes k across step right
+  pub some-columns : line .whole ≤ columns
   pub some-input : n ≤ input
   pub some-room : recordSize * n + recordSize ≤ room
-  pub in-margin : across + n * step ≤ right
 
 abbrev pub Letters : Bool → List ℕ → Type 0
 Letters upper l = Each (λ b. isLetter upper b ≡ true) l

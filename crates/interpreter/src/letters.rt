@@ -99,7 +99,7 @@ fn print_or_pass(
 }
 
 // The number that the record of a column's byte bears.
-fn column_part(mode: ImageMode, k: u8) -> u8
+pub(crate) fn column_part(mode: ImageMode, k: u8) -> u8
     ensures { λ r. ⌜ r ≡ columnPart mode k ⌝ }
 {
     if image_bytes(mode) == 1 { 0 } else { k }

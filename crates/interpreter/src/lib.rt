@@ -1,5 +1,4 @@
 // The calls on registers.
-mod columns;
 mod controls;
 mod escapes;
 mod letters;

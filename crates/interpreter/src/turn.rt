@@ -1,11 +1,11 @@
 // A turn of a reading call: letters and control bytes until something is waited for; image bytes on a line; or one byte of an escape or a list.
-use crate::columns::parts_wait;
-use crate::columns::place_parts;
+use crate::letters::column_part;
 use crate::letters::image_byte;
 use crate::letters::image_record;
 use crate::letters::letter;
 use crate::letters::letter_record;
-use crate::series::least;
+use crate::series::most_here;
+use crate::series::place_columns;
 use crate::series::place_run;
 use crate::steps::Stepping;
 use crate::steps::argument_step;
@@ -38,6 +38,7 @@ ghost use Rattle.printer.specs.declared.state.Printer.{Printer};
 ghost use Rattle.registers.specs.declared.pending.Pending.{Pending};
 ghost use Rattle.registers.specs.Groups.{isSet};
 ghost use Rattle.framing.specs.Letters.{printsFrom};
+ghost use Rattle.interpreter.specs.Series.{columnsWait};
 ghost use Rattle.interpreter.specs.Taking.{Current, Kept, afterByte, TurnPromise};
 
 // The room that a byte's records may take: it writes at most two.
@@ -84,12 +85,16 @@ fn take_letters(
 {
     let v = letter_record(&*m, 0);
     let step = Units(m[ADVANCE]);
+    let size = input.len();
+    let most = most_here(&*m, step, 1, 1, size, size, out.len());
     let placed = place_run(
         &mut *m,
         v,
         from,
         step,
-        input.len(),
+        1,
+        1,
+        most,
         input,
         &mut *out,
         allowance,
@@ -219,75 +224,17 @@ fn take_image(
     }
 }
 
-// In image data of one byte a column: the bytes that are placed from here, or else one.
-fn take_columns(
-    mode: ImageMode,
-    columns: u16,
-    m: &mut [u32; COUNT],
-    input: &[u8],
-    out: &mut [u8],
-    allowance: usize,
-) -> Turned
-    requires { ⌜ Kept (Waiting.ImageData mode 1 columns) (now m) × (imageBytes mode ≡ 1) ⌝ }
-    requires { ⌜ (0 < length (now input)) × (roomForByte ≤ length (now out)) ⌝ }
-    requires { ⌜ length (now input) ≤ allowance ⌝ }
-    ensures { λ r. ⌜ ((p : Printer) (v : Pending) → Current p v (Waiting.ImageData mode 1 columns) (now (m .entry))
-        → TurnPromise p v (now (input .entry)) (now (out .entry)) r (now (m .exit)) (now (out .exit))) ⌝ }
-    ensures { λ r. ⌜ (0 < r .read) × (r .left + r .read ≡ allowance) ⌝ }
+// So many columns are waited for, from the k-th byte of one; none is nothing.
+fn columns_wait(mode: ImageMode, k: u8, columns: u16) -> Waiting
+    ensures { λ r. ⌜ r ≡ columnsWait mode k columns ⌝ }
 {
-    let v = image_record(&*m, mode, 0, 0);
-    let step = image_step(mode);
-    let some = least(columns as usize, input.len());
-    let placed = place_run(&mut *m, v, 0, step, some, input, &mut *out, allowance);
-    let n = placed.count;
-    if n == 0 {
-        return take_image(mode, 1, columns, m, input, out, allowance);
+    if columns == 0 {
+        return Waiting::Nothing;
     }
-    let written = Record::SIZE * n;
-    let rest = columns - n as u16;
-    Turned {
-        waiting: image_wait(mode, rest),
-        read: n,
-        written,
-        left: placed.left,
-    }
+    Waiting::ImageData(mode, k, columns)
 }
 
-// In image data of three bytes a column, the same, from any of them on.
-fn take_parts(
-    mode: ImageMode,
-    k: u8,
-    columns: u16,
-    m: &mut [u32; COUNT],
-    input: &[u8],
-    out: &mut [u8],
-    allowance: usize,
-) -> Turned
-    requires { ⌜ Kept (Waiting.ImageData mode k columns) (now m) × (imageBytes mode ≡ 3) ⌝ }
-    requires { ⌜ (0 < length (now input)) × (roomForByte ≤ length (now out)) ⌝ }
-    requires { ⌜ length (now input) ≤ allowance ⌝ }
-    ensures { λ r. ⌜ ((p : Printer) (v : Pending) → Current p v (Waiting.ImageData mode k columns) (now (m .entry))
-        → TurnPromise p v (now (input .entry)) (now (out .entry)) r (now (m .exit)) (now (out .exit))) ⌝ }
-    ensures { λ r. ⌜ (0 < r .read) × (r .left + r .read ≡ allowance) ⌝ }
-{
-    let v = image_record(&*m, mode, 0, 0);
-    let step = image_step(mode);
-    let placed = place_parts(&mut *m, v, step, k, columns, input, &mut *out, allowance);
-    let n = placed.count;
-    if n == 0 {
-        return take_image(mode, k, columns, m, input, out, allowance);
-    }
-    let written = Record::SIZE * n;
-    let rest = columns - placed.done;
-    Turned {
-        waiting: parts_wait(mode, placed.part, rest),
-        read: n,
-        written,
-        left: placed.left,
-    }
-}
-
-// In image data: by the bytes of a column.
+// In image data, from any byte of a column on: the bytes that are placed from here, or else one.
 fn take_images(
     mode: ImageMode,
     k: u8,
@@ -304,11 +251,41 @@ fn take_images(
         → TurnPromise p v (now (input .entry)) (now (out .entry)) r (now (m .exit)) (now (out .exit))) ⌝ }
     ensures { λ r. ⌜ (0 < r .read) × (r .left + r .read ≡ allowance) ⌝ }
 {
+    let v = image_record(&*m, mode, column_part(mode, 1), 0);
+    let step = image_step(mode);
     let bytes = image_bytes(mode);
-    if bytes == 1 {
-        return take_columns(mode, columns, m, input, out, allowance);
+    let most = most_here(
+        &*m,
+        step,
+        bytes,
+        k,
+        columns as usize,
+        input.len(),
+        out.len(),
+    );
+    let placed = place_columns(
+        &mut *m,
+        v,
+        step,
+        bytes,
+        k,
+        most,
+        input,
+        &mut *out,
+        allowance,
+    );
+    let n = placed.count;
+    if n == 0 {
+        return take_image(mode, k, columns, m, input, out, allowance);
     }
-    take_parts(mode, k, columns, m, input, out, allowance)
+    let written = Record::SIZE * n;
+    let rest = columns - placed.done as u16;
+    Turned {
+        waiting: columns_wait(mode, placed.part, rest),
+        read: n,
+        written,
+        left: placed.left,
+    }
 }
 
 // By what is waited for: letters and control bytes, image bytes, or one byte of an escape or a list. The allowance covers the input.
