@@ -1,0 +1,143 @@
+//! The letters of a line in a grid of cells.
+
+use crate::letters::{DOUBLE_WIDTH, UNDERLINE};
+use crate::line::{inked, shown, Letter};
+
+/// A cell: a letter with its style, or nothing.
+#[derive(Clone, Copy, PartialEq, Eq)]
+pub struct Cell {
+    pub sign: char,
+    pub style: u16,
+    /// Whether the double width letter before it takes this cell too.
+    pub second: bool,
+}
+
+const EMPTY: Cell = Cell {
+    sign: ' ',
+    style: 0,
+    second: false,
+};
+const SECOND: Cell = Cell {
+    second: true,
+    ..EMPTY
+};
+/// What stands for letters that are cut off.
+const CUT: Cell = Cell {
+    sign: '…', ..EMPTY
+};
+
+/// The cells of the text across.
+#[derive(Clone, Copy)]
+pub struct Grid {
+    /// Cells to the inch.
+    pub cpi: u32,
+    /// Dots to the inch.
+    pub across: u32,
+}
+
+impl Grid {
+    /// The cell that a letter stands in by its place; half a dot is for
+    /// rounding.
+    fn cell(self, letter: &Letter) -> usize {
+        ((2 * u32::from(letter.column) + 1) * self.cpi / (2 * self.across)) as usize
+    }
+
+    /// Whether a letter is of double width and, standing in this cell, goes past
+    /// the middle of the next.
+    fn takes_two(self, letter: &Letter, cell: usize) -> bool {
+        let across = u64::from(self.across);
+        let end = u64::from(letter.column) * 3_600 + u64::from(letter.advance) * across;
+        let middle = (2 * cell as u64 + 3) * 3_600 * across;
+        letter.style & DOUBLE_WIDTH != 0 && 2 * end * u64::from(self.cpi) > middle
+    }
+
+    /// Sets the letters of a line into its cells; whether each word is whole and
+    /// begins at its place. Where one has no room there, what reaches into it is
+    /// cut; but running text, in which no gap is wider than a blank, goes on to
+    /// the right.
+    pub fn place(self, line: &[Letter], cells: &mut Vec<Cell>) -> bool {
+        let shown = shown(line, self.across);
+        let letters = inked(&shown);
+        let far = |pair: &[Letter]| pair[1].is_far(&pair[0], self.across);
+        let running = !letters.windows(2).any(far);
+        let mut at_places = true;
+        for word in letters.chunk_by(|one, next| !next.begins_word(one, self.across)) {
+            let natural = self.cell(&word[0]);
+            give_way(cells, natural.saturating_sub(1));
+            if !cells.is_empty() && natural <= cells.len() {
+                at_places = false;
+                if running {
+                    cells.push(EMPTY);
+                } else {
+                    cut(cells, natural);
+                }
+            }
+            self.set(word, cells);
+        }
+        self.underline(&shown, cells);
+        at_places
+    }
+
+    /// Sets a word behind what is there. A letter that finds its cell taken by
+    /// the one before it goes to the next.
+    fn set(self, word: &[Letter], cells: &mut Vec<Cell>) {
+        for letter in word {
+            let natural = self.cell(letter);
+            give_way(cells, natural);
+            let cell = natural.max(cells.len());
+            cells.resize(cell, EMPTY);
+            cells.push(Cell {
+                sign: letter.sign,
+                style: letter.style,
+                second: false,
+            });
+            if self.takes_two(letter, cell) {
+                cells.push(SECOND);
+            }
+        }
+    }
+
+    /// Underlines the cells of underlined blanks.
+    fn underline(self, letters: &[Letter], cells: &mut Vec<Cell>) {
+        let underlined = |letter: &&Letter| letter.is_blank() && letter.style & UNDERLINE != 0;
+        for blank in letters.iter().filter(underlined) {
+            let cell = cell_of(cells, self.cell(blank));
+            if cell.sign == ' ' {
+                cell.style = UNDERLINE;
+            }
+        }
+    }
+}
+
+/// Takes back the second cell of a double width letter, where only so many cells
+/// are free for what is there.
+fn give_way(cells: &mut Vec<Cell>, free: usize) {
+    if cells.len() > free && cells.last() == Some(&SECOND) {
+        cells.pop();
+    }
+}
+
+/// Leaves so many cells, the last of which says that letters are lost.
+fn cut(cells: &mut Vec<Cell>, count: usize) {
+    cells.truncate(count);
+    if let Some(last) = cells.last_mut() {
+        *last = CUT;
+    }
+}
+
+/// Sets a sign into a cell where nothing stands.
+pub fn fill(cells: &mut Vec<Cell>, cell: usize, sign: char) {
+    let cell = cell_of(cells, cell);
+    if cell.sign == ' ' {
+        cell.sign = sign;
+        cell.second = false;
+    }
+}
+
+/// The cell at this place of a line.
+fn cell_of(cells: &mut Vec<Cell>, place: usize) -> &mut Cell {
+    if cells.len() <= place {
+        cells.resize(place + 1, EMPTY);
+    }
+    &mut cells[place]
+}

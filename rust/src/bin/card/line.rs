@@ -1,0 +1,152 @@
+//! The letters of a page, and what shows of those that are struck over each
+//! other.
+
+use crate::letters::{character, is_blank, BOLD, DOUBLE_STRIKE, DOUBLE_WIDTH, ITALIC, UNDERLINE};
+use crate::page::Page;
+use ierbulosc::Record;
+
+/// The style bits that a terminal shows.
+const SHOWN: u16 = BOLD | ITALIC | UNDERLINE | DOUBLE_WIDTH;
+
+/// A letter of the page: its place in dots, its width in units.
+#[derive(Clone, Copy)]
+pub struct Letter {
+    pub column: u16,
+    /// The column of the last one to the right that it shows with.
+    pub last: u16,
+    pub row: u16,
+    pub advance: u16,
+    pub sign: char,
+    pub style: u16,
+    /// Whether a blank stands before it; see [`inked`].
+    after_blank: bool,
+    /// Its place among the letters as they came.
+    order: u32,
+}
+
+impl Letter {
+    /// The letter of a record, if it is one. One struck twice is bold.
+    fn of(order: u32, record: Record, across: u32) -> Option<Letter> {
+        let Record::Tx {
+            column,
+            row,
+            byte,
+            style,
+            country,
+            advance,
+            ..
+        } = record
+        else {
+            return None;
+        };
+        let (sign, mut style) = character(byte, style, country, across);
+        if style & DOUBLE_STRIKE != 0 {
+            style |= BOLD;
+        }
+        Some(Letter {
+            column,
+            last: column,
+            row,
+            advance,
+            sign: if is_blank(sign) { ' ' } else { sign },
+            style: style & SHOWN,
+            after_blank: false,
+            order,
+        })
+    }
+
+    pub fn is_blank(&self) -> bool {
+        self.sign == ' '
+    }
+
+    /// Whether the letter is struck over one that does not stand to the right
+    /// of it: less than half of the narrower one's width lies between.
+    fn strikes(&self, below: &Letter, across: u32) -> bool {
+        let apart = u32::from(self.column - below.column);
+        let narrower = u32::from(self.advance.min(below.advance));
+        2 * apart * 3_600 < narrower * across
+    }
+
+    /// Makes of another letter what shows where this one is struck over it, or it
+    /// over this one; it does not stand to the right of this one.
+    fn strike(&self, below: &mut Letter) {
+        let (ours, theirs) = ((self.sign, self.style), (below.sign, below.style));
+        (below.sign, below.style) = if self.order > below.order {
+            struck(theirs, ours)
+        } else {
+            struck(ours, theirs)
+        };
+        below.last = self.column;
+        below.advance = below.advance.max(self.advance);
+        below.order = below.order.max(self.order);
+    }
+
+    /// How far to the right of the end of another letter it begins, in units
+    /// times dots to the inch; below 0 where they overlap.
+    fn gap(&self, before: &Letter, across: u32) -> i64 {
+        let between = i64::from(self.column) - i64::from(before.last);
+        between * 3_600 - i64::from(before.advance) * i64::from(across)
+    }
+
+    /// Whether it begins a word: a blank or most of one's width lies between it
+    /// and the letter before it.
+    pub fn begins_word(&self, before: &Letter, across: u32) -> bool {
+        let narrower = i64::from(self.advance.min(before.advance));
+        self.after_blank || 4 * self.gap(before, across) >= 3 * narrower * i64::from(across)
+    }
+
+    /// Whether more than a blank lies between it and the letter before it.
+    pub fn is_far(&self, before: &Letter, across: u32) -> bool {
+        let wider = i64::from(self.advance.max(before.advance));
+        2 * self.gap(before, across) > 3 * wider * i64::from(across)
+    }
+}
+
+/// The letters of a page, as they came, at so many dots to the inch.
+pub fn letters(page: &Page, across: u32) -> impl Iterator<Item = Letter> + '_ {
+    let records = (0..).zip(page.letters.records());
+    records.filter_map(move |(order, record)| Letter::of(order, record, across))
+}
+
+/// The letters of a line as they show, from the left: of those that are struck
+/// over each other one is left.
+pub fn shown(line: &[Letter], across: u32) -> Vec<Letter> {
+    let mut shown: Vec<Letter> = Vec::with_capacity(line.len());
+    for &letter in line {
+        match shown.last_mut() {
+            Some(below) if letter.strikes(below, across) => letter.strike(below),
+            _ => shown.push(letter),
+        }
+    }
+    shown
+}
+
+/// Those of a line's letters that are no blanks.
+pub fn inked(shown: &[Letter]) -> Vec<Letter> {
+    let mut inked = Vec::with_capacity(shown.len());
+    let mut after_blank = false;
+    for &letter in shown {
+        if !letter.is_blank() {
+            inked.push(Letter {
+                after_blank,
+                ..letter
+            });
+        }
+        after_blank = letter.is_blank();
+    }
+    inked
+}
+
+/// What a letter struck over another shows, each a sign and its style: the newer
+/// one; but a blank leaves what it is struck over, an underscore underlines it,
+/// and a letter struck over itself is bold.
+fn struck(below: (char, u16), over: (char, u16)) -> (char, u16) {
+    let both = below.1 | over.1;
+    match (below.0, over.0) {
+        (sign, ' ') => (sign, below.1 | over.1 & UNDERLINE),
+        (' ', sign) => (sign, over.1 | below.1 & UNDERLINE),
+        (one, other) if one == other => (one, both | BOLD),
+        (sign, '_') | ('_', sign) => (sign, both | UNDERLINE),
+        _ => over,
+    }
+}

@@ -1,0 +1,205 @@
+//! The words of the command line.
+
+use ierbulosc::{Settings, State, INPUT_USED};
+use std::ffi::{OsStr, OsString};
+use std::os::unix::ffi::OsStrExt;
+
+/// What `--help` prints.
+pub const HELP: &str = "\
+card [OPTION..] [FILE..]
+Reads ESC/P from the files, one after the other, or from standard input, and
+shows each page: letters at their places, images as dots.
+  --dots N        dots to the inch: 203 or 300 (300 if not given)
+  --width N       width of the paper in 1/3600 inch: 7200 to 28800 (28800 if not given)
+  --auto-feed     a line feed after each carriage return
+  --cpi N         cells of the text to the inch: 1 to 100 (10 if not given); letters
+                  that stand closer want more: 12, 15, 17 or 20
+  --svg PREFIX    in place of text, a picture of each page: PREFIX-1.svg and so on
+  --slots LIST    in place of text, at the end, what stands in each slot now; LIST is
+                  the columns at which slots begin, 10 to the inch: 10,20,30
+  --slot-stops    the same, where slots begin at the tab stops in force
+  --follow        redraws the present page, and the slots, as bytes come
+  --help          this text
+  --version       the version
+A slot goes up to the next one, the last to the edge of the paper. What stands there
+is what the newest line there has; a page that was turned is gone. Text that begins
+before the slot or runs past it is whole, and marked.
+A serial line is set raw before it is read: stty -F /dev/ttyS0 9600 raw -echo
+A FILE of - is standard input; after -- every word is a FILE.
+Styles are shown on a terminal, unless NO_COLOR is set.
+Exit status: 0; 1 where reading or writing failed; 2 for bad usage.
+";
+
+/// The most cells of the text to an inch.
+const MOST_CPI: u32 = 100;
+/// The columns of the widest paper, 10 to the inch.
+const MOST_COLUMNS: u32 = 80;
+
+/// The options without a value.
+const FLAGS: [&str; 5] = [
+    "--auto-feed",
+    "--slot-stops",
+    "--follow",
+    "--help",
+    "--version",
+];
+
+// What the other ones take.
+const DOTS: &str = "--dots takes 203 or 300";
+const WIDTH: &str = "--width takes 7200 to 28800";
+const CPI: &str = "--cpi takes 1 to 100";
+const SVG: &str = "--svg takes the beginning of the pictures' names";
+const SLOTS: &str = "--slots takes columns from 0 to 79, ascending, as 10,20,30";
+
+/// Where the slots of a card begin.
+#[derive(Clone, PartialEq, Eq, Debug)]
+pub enum Slots {
+    /// At these columns, 10 to the inch from the left of the paper, ascending.
+    Columns(Vec<u32>),
+    /// At the tab stops in force.
+    Stops,
+}
+
+/// What is asked for.
+#[derive(Clone, PartialEq, Eq, Debug)]
+pub struct Options {
+    pub settings: Settings,
+    /// Cells of the text to an inch.
+    pub cpi: u32,
+    /// The beginning of the names of pictures, if such are to be written.
+    pub svg: Option<OsString>,
+    pub slots: Option<Slots>,
+    pub follow: bool,
+    /// The files to read; none: standard input.
+    pub files: Vec<OsString>,
+}
+
+/// What the command line says to do.
+#[derive(Clone, PartialEq, Eq, Debug)]
+pub enum Choice {
+    Show(Options),
+    Help,
+    Version,
+}
+
+impl Default for Options {
+    fn default() -> Options {
+        Options {
+            settings: Settings::default(),
+            cpi: 10,
+            svg: None,
+            slots: None,
+            follow: false,
+            files: Vec::new(),
+        }
+    }
+}
+
+/// What these words ask for, or what is wrong with them. Of two of one option
+/// the last holds.
+pub fn choice(words: impl IntoIterator<Item = OsString>) -> Result<Choice, String> {
+    let mut words = words.into_iter();
+    let mut options = Options::default();
+    while let Some(word) = words.next() {
+        let (name, value) = parts(&word);
+        if value.is_some() && FLAGS.contains(&name.as_str()) {
+            return Err(format!("{name} takes no value"));
+        }
+        match name.as_str() {
+            "--" if value.is_none() => {
+                options.files.extend(words);
+                break;
+            }
+            "--help" => return Ok(Choice::Help),
+            "--version" => return Ok(Choice::Version),
+            _ if name.len() > 1 && name.starts_with('-') => {
+                let value = || value.or_else(|| words.next());
+                set(&mut options, &name, value)?;
+            }
+            _ => options.files.push(word),
+        }
+    }
+    whole(&options)?;
+    Ok(Choice::Show(options))
+}
+
+/// A word's name and, where it is of the form `--name=value`, its value.
+/// The value may be of any bytes, as a file's name may.
+fn parts(word: &OsStr) -> (String, Option<OsString>) {
+    let bytes = word.as_bytes();
+    let sign = bytes.iter().position(|&byte| byte == b'=');
+    match sign.filter(|_| bytes.starts_with(b"--")) {
+        Some(sign) => {
+            let name = String::from_utf8_lossy(&bytes[..sign]);
+            let value = OsStr::from_bytes(&bytes[sign + 1..]);
+            (name.into_owned(), Some(value.into()))
+        }
+        None => (word.to_string_lossy().into_owned(), None),
+    }
+}
+
+/// Sets the option of this name; its value, if it takes one, is asked for.
+fn set(
+    options: &mut Options,
+    name: &str,
+    value: impl FnOnce() -> Option<OsString>,
+) -> Result<(), String> {
+    let number = |value: Option<OsString>| value.and_then(|value| number(value.to_str()?));
+    match name {
+        "--dots" => options.settings.resolution = number(value()).ok_or(DOTS)?,
+        "--width" => options.settings.width = number(value()).ok_or(WIDTH)?,
+        "--cpi" => options.cpi = number(value()).ok_or(CPI)?,
+        "--svg" => options.svg = Some(value().filter(|prefix| !prefix.is_empty()).ok_or(SVG)?),
+        "--slots" => {
+            let list = value().and_then(|list| columns(list.to_str()?));
+            options.slots = Some(Slots::Columns(list.ok_or(SLOTS)?));
+        }
+        "--auto-feed" => options.settings.auto_feed = 1,
+        "--slot-stops" => options.slots = Some(Slots::Stops),
+        "--follow" => options.follow = true,
+        _ => {
+            let name = name.escape_debug();
+            return Err(format!("{name} is no option; see card --help"));
+        }
+    }
+    Ok(())
+}
+
+/// A number of at most nine digits.
+fn number(word: &str) -> Option<u32> {
+    let digits = word.bytes().all(|byte| byte.is_ascii_digit());
+    let taken = digits && (1..=9).contains(&word.len());
+    taken.then(|| word.parse().ok()).flatten()
+}
+
+/// The columns of a list with commas, ascending strictly.
+fn columns(list: &str) -> Option<Vec<u32>> {
+    let columns: Vec<u32> = list.split(',').map(number).collect::<Option<_>>()?;
+    let ascending = columns.windows(2).all(|pair| pair[0] < pair[1]);
+    let on_paper = columns.iter().all(|&column| column < MOST_COLUMNS);
+    (ascending && on_paper).then_some(columns)
+}
+
+/// Whether the options hold together.
+fn whole(options: &Options) -> Result<(), String> {
+    let Options { settings, .. } = options;
+    if !(1..=MOST_CPI).contains(&options.cpi) {
+        return Err(CPI.into());
+    }
+    if options.follow && options.svg.is_some() {
+        return Err("--follow draws on the screen, and takes no --svg".into());
+    }
+    let start = |settings: &Settings| State::start(settings).0 == INPUT_USED;
+    let plain = Settings::default();
+    let resolution = settings.resolution;
+    if !start(&Settings {
+        resolution,
+        ..plain
+    }) {
+        return Err(DOTS.into());
+    }
+    if !start(settings) {
+        return Err(WIDTH.into());
+    }
+    Ok(())
+}

@@ -1,0 +1,747 @@
+//! The program `card`: its text and pictures of worked cards against stored
+//! ones (rust/tests/card/README.md), the slots, usage, and long captures.
+
+use std::ffi::{c_int, OsStr};
+use std::fs;
+use std::io::{BufRead, BufReader, Read, Write};
+use std::os::unix::ffi::OsStrExt;
+use std::path::{Path, PathBuf};
+use std::process::{Child, Command, Output, Stdio};
+use std::sync::mpsc::{channel, RecvTimeoutError, Sender};
+use std::thread;
+use std::time::Duration;
+
+/// The slots of a card at columns 10, 20 .. 70.
+const SLOTS: [&str; 2] = ["--slots", "10,20,30,40,50,60,70"];
+
+/// How long the program may run before it is killed, so that no test waits
+/// without end.
+const PATIENCE: Duration = Duration::from_secs(120);
+const KILL: c_int = 9;
+
+extern "C" {
+    fn kill(process: c_int, signal: c_int) -> c_int;
+}
+
+/// A child that is killed when its time is over, unless this is gone before.
+struct Limit {
+    _gone: Sender<()>,
+}
+
+impl Limit {
+    fn new(child: &Child) -> Limit {
+        let process = child.id() as c_int;
+        let (gone, wait) = channel::<()>();
+        thread::spawn(move || {
+            if wait.recv_timeout(PATIENCE) == Err(RecvTimeoutError::Timeout) {
+                // SAFETY: no memory is touched; the child is ours, and the limit
+                // is gone once it was waited for.
+                unsafe { kill(process, KILL) };
+            }
+        });
+        Limit { _gone: gone }
+    }
+}
+
+/// A file of this folder's cards.
+fn stored(name: &str) -> PathBuf {
+    Path::new(env!("CARGO_MANIFEST_DIR"))
+        .join("tests/card")
+        .join(name)
+}
+
+/// The program with these words, without an input.
+fn card(words: &[&str]) -> Command {
+    let mut command = Command::new(env!("CARGO_BIN_EXE_card"));
+    command.args(words).env_remove("NO_COLOR");
+    command.stdin(Stdio::null());
+    command
+}
+
+/// What comes of the program with these words and this input.
+fn run(words: &[&str], input: &[u8]) -> Output {
+    let mut command = card(words);
+    command.stdin(Stdio::piped());
+    command.stdout(Stdio::piped()).stderr(Stdio::piped());
+    let mut child = command.spawn().unwrap();
+    let _limit = Limit::new(&child);
+    let mut stdin = child.stdin.take().unwrap();
+    let input = input.to_vec();
+    // What is wrong with the words may end it before it reads.
+    let writer = thread::spawn(move || drop(stdin.write_all(&input)));
+    let output = child.wait_with_output().unwrap();
+    writer.join().unwrap();
+    output
+}
+
+/// What it says where words of the text are not at their places.
+const CROWDED: &str =
+    "card: letters stand closer than the text's cells, words are moved or cut; see --cpi\n";
+
+/// What it prints, with this on standard error.
+fn prints_and_says(words: &[&str], input: &[u8], said: &str) -> String {
+    let output = run(words, input);
+    assert_eq!(String::from_utf8_lossy(&output.stderr), said, "{words:?}");
+    assert_eq!(output.status.code(), Some(0), "{words:?}");
+    String::from_utf8(output.stdout).unwrap()
+}
+
+/// What it prints, without a complaint.
+fn prints(words: &[&str], input: &[u8]) -> String {
+    prints_and_says(words, input, "")
+}
+
+/// A new folder that is gone with the value.
+struct Folder(PathBuf);
+
+impl Folder {
+    fn new(name: &str) -> Folder {
+        let path = Path::new(env!("CARGO_TARGET_TMPDIR")).join(name);
+        let _ = fs::remove_dir_all(&path);
+        fs::create_dir_all(&path).unwrap();
+        Folder(path)
+    }
+
+    /// The names of its files, in order.
+    fn names(&self) -> Vec<String> {
+        let names = fs::read_dir(&self.0).unwrap();
+        let name = |entry: fs::DirEntry| entry.file_name().into_string().unwrap();
+        let mut names: Vec<String> = names.map(|entry| name(entry.unwrap())).collect();
+        names.sort();
+        names
+    }
+}
+
+impl Drop for Folder {
+    fn drop(&mut self) {
+        let _ = fs::remove_dir_all(&self.0);
+    }
+}
+
+/// Text and pictures of a card at both resolutions are the stored ones, with
+/// so many pages; this is said of the text.
+fn as_stored(name: &str, pages: usize, words: &[&str], said: &str) {
+    let input = stored(&format!("{name}.prn"));
+    let input = input.to_str().unwrap();
+    for (dots, ending) in [("300", ""), ("203", "-203")] {
+        let words = [words, &["--dots", dots, input]].concat();
+        let name = format!("{name}{ending}");
+        let text = fs::read_to_string(stored(&format!("{name}.txt"))).unwrap();
+        assert_eq!(prints_and_says(&words, b"", said), text, "{name}");
+        let folder = Folder::new(&format!("card-{name}"));
+        let prefix = folder.0.join(&name);
+        let words = [&words[..], &["--svg", prefix.to_str().unwrap()]].concat();
+        assert_eq!(prints(&words, b""), "", "{name}");
+        let names: Vec<String> = (1..=pages)
+            .map(|page| format!("{name}-{page}.svg"))
+            .collect();
+        assert_eq!(folder.names(), names);
+        for picture in &names {
+            let came = fs::read_to_string(folder.0.join(picture)).unwrap();
+            let kept = fs::read_to_string(stored(picture)).unwrap();
+            assert!(came == kept, "{picture} is another");
+        }
+    }
+}
+
+#[test]
+fn a_card_on_which_released_moves() {
+    as_stored("moves", 1, &[], "");
+}
+
+#[test]
+fn styles() {
+    as_stored("styles", 1, &[], CROWDED);
+}
+
+#[test]
+fn lines_that_lie_close_and_letters_struck_over() {
+    as_stored("close", 1, &[], "");
+}
+
+#[test]
+fn an_automatic_line_on_narrow_paper() {
+    as_stored("narrow", 1, &["--width", "7200"], "");
+}
+
+#[test]
+fn pages_and_a_voided_line() {
+    as_stored("pages", 3, &[], "");
+}
+
+#[test]
+fn images_of_every_mode() {
+    as_stored("images", 1, &[], "");
+}
+
+/// RELEASED stands under the 4, however close its letters and the blanks before
+/// it are, and also where these are underlined.
+#[test]
+fn columns_of_closer_letters() {
+    let heading = "SLOT      1         2         3         4         5         6         7\n";
+    let line = "STATE                                   RELEASED\n";
+    // How each pitch is chosen, the blanks before column 40, and what ends it.
+    let pitches: [(&[u8], usize, &[u8]); 6] = [
+        (b"", 35, b""),
+        (b"\x1BM", 43, b"\x1BP"),
+        (b"\x1Bg", 55, b"\x1BP"),
+        (b"\x0F", 62, b"\x12"),
+        (b"\x1BM\x0F", 75, b"\x12\x1BP"),
+        (b"\x0F\x1B-1", 62, b"\x1B-0\x12"),
+    ];
+    for dots in ["300", "203"] {
+        for (begin, blanks, end) in pitches {
+            let mut input = heading.replace('\n', "\r\n").into_bytes();
+            input.extend_from_slice(begin);
+            input.extend_from_slice(b"STATE");
+            input.extend(vec![b' '; blanks]);
+            input.extend_from_slice(b"RELEASED");
+            input.extend_from_slice(end);
+            let came = prints(&["--dots", dots], &input);
+            assert_eq!(came, format!("{heading}{line}"), "{}", begin.escape_ascii());
+        }
+    }
+}
+
+/// Words in columns stay there, and are cut where the next one leaves no room;
+/// running text goes on to the right; a finer grid has room for all.
+#[test]
+fn words_without_room() {
+    let table = b"\x0F\x1BD\x0A\x14\x1E\x00RELEASED\tLOCKED\tRELEASED\tHELD";
+    let came = prints_and_says(&[], table, CROWDED);
+    assert_eq!(came, "RELEA…LOCKE…RELEA…HELD\n");
+    let came = prints(&["--cpi", "17"], table);
+    assert_eq!(came, "RELEASED  LOCKED    RELEASED  HELD\n");
+    let running = b"\x1BMTWELVE TO THE INCH";
+    let came = prints_and_says(&[], running, CROWDED);
+    assert_eq!(came, "TWELVE TO THE INCH\n");
+    assert_eq!(prints(&["--cpi", "12"], running), came);
+    // Frames say it too.
+    let came = prints(&["--follow"], running);
+    let said = CROWDED.strip_prefix("card: ").unwrap().trim_end();
+    assert_eq!(came, format!("TWELVE TO THE INCH\n({said})\n\x0C\n"));
+}
+
+/// Reduced letters set one by one, a tenth of an inch apart, are one word.
+#[test]
+fn letters_set_one_by_one() {
+    let set = |(place, letter): (u8, &u8)| [0x1B, b'$', 6 * place, 0, *letter];
+    let mut input = b"\x0F".to_vec();
+    input.extend((10..).zip(b"RELEASED").flat_map(set));
+    assert_eq!(prints(&[], &input), "          RELEASED\n");
+    assert_eq!(
+        prints(&["--slots", "10"], &input),
+        slot_lines(&["RELEASED"])
+    );
+}
+
+/// The folder of the card in README.
+fn docs() -> PathBuf {
+    Path::new(env!("CARGO_MANIFEST_DIR")).join("../docs")
+}
+
+/// The text in README is what the program prints of its card.
+#[test]
+fn the_text_of_the_how_to() {
+    let input = docs().join("card.prn");
+    let text = prints(&[input.to_str().unwrap()], b"");
+    let indented = |line| match line {
+        "" => "\n".to_string(),
+        _ => format!("    {line}\n"),
+    };
+    let text: String = text.lines().map(indented).collect();
+    let how_to = fs::read_to_string(docs().join("../README.md")).unwrap();
+    assert!(how_to.contains(&format!("\nprints\n\n{text}\n")), "{text}");
+    let asked = [&SLOTS[..], &[input.to_str().unwrap()]].concat();
+    let mut words = ["LOCKED"; 7];
+    words[3] = "RELEASED";
+    assert_eq!(prints(&asked, b""), slot_lines(&words));
+}
+
+/// The marked slots in README are what the program prints of such a card.
+#[test]
+fn the_marked_slots_of_the_how_to() {
+    let input = b"\x1BD\x0A\x14\x1E\x28\x32\x3C\x46\x00STATE\t\t\t\tNOT RELEASED";
+    let came = prints(&SLOTS, input);
+    let lines: Vec<&str> = came.lines().collect();
+    let marked = format!("\n    {}\n    {}\n", lines[3], lines[4]);
+    assert!(marked.contains("NOT RELEASED (begins before the slot)"));
+    let how_to = fs::read_to_string(docs().join("../README.md")).unwrap();
+    assert!(how_to.contains(&marked), "{marked}");
+}
+
+/// The picture in README is what the program makes of its card.
+#[test]
+fn the_picture_of_the_how_to() {
+    let docs = docs();
+    let folder = Folder::new("card-how-to");
+    let prefix = folder.0.join("card");
+    let input = docs.join("card.prn");
+    let words = ["--svg", prefix.to_str().unwrap(), input.to_str().unwrap()];
+    assert_eq!(prints(&words, b""), "");
+    assert_eq!(folder.names(), ["card-1.svg"]);
+    let came = fs::read_to_string(folder.0.join("card-1.svg")).unwrap();
+    let kept = fs::read_to_string(docs.join("card.svg")).unwrap();
+    assert!(came == kept, "docs/card.svg is another");
+}
+
+/// Pieces of any length give the same: the file at once, and byte by byte.
+#[test]
+fn cut_anywhere() {
+    let input = fs::read(stored("pages.prn")).unwrap();
+    let text = fs::read_to_string(stored("pages.txt")).unwrap();
+    assert_eq!(prints(&[], &input), text);
+    let mut child = card(&["-"])
+        .stdin(Stdio::piped())
+        .stdout(Stdio::piped())
+        .spawn()
+        .unwrap();
+    let _limit = Limit::new(&child);
+    let mut stdin = child.stdin.take().unwrap();
+    for byte in input.chunks(1) {
+        stdin.write_all(byte).unwrap();
+        stdin.flush().unwrap();
+    }
+    drop(stdin);
+    let output = child.wait_with_output().unwrap();
+    assert_eq!(String::from_utf8(output.stdout).unwrap(), text);
+}
+
+/// The files are read one after the other, as one.
+#[test]
+fn several_files() {
+    let folder = Folder::new("card-several");
+    let (one, two) = (folder.0.join("one"), folder.0.join("two"));
+    fs::write(&one, b"A\x1B").unwrap();
+    fs::write(&two, b"EB").unwrap();
+    let words = [one.to_str().unwrap(), "--", two.to_str().unwrap()];
+    assert_eq!(prints(&words, b""), "AB\n");
+    assert_eq!(prints(&["--", two.to_str().unwrap(), "-"], b"C"), "EBC\n");
+}
+
+/// The lines of the slots of which these words stand there.
+fn slot_lines(words: &[&str]) -> String {
+    let line = |(number, word)| format!("slot {} (electricians: {number})  {word}\n", number + 1);
+    words.iter().enumerate().map(line).collect()
+}
+
+#[test]
+fn slots_in_which_released_moves() {
+    let input = fs::read(stored("moves.prn")).unwrap();
+    // The line of the heading, and the next one, end here; then one is voided.
+    let second = input.iter().enumerate().filter(|(_, &byte)| byte == b'\n');
+    let second = second.map(|(at, _)| at + 1).nth(2).unwrap();
+    let voided = second
+        + input[second..]
+            .windows(2)
+            .position(|pair| pair == b"\x1Bl")
+            .unwrap();
+    let locked = "LOCKED";
+    let mut words = [locked; 7];
+    words[3] = "RELEASED";
+    for options in [&SLOTS[..], &["--slot-stops"]] {
+        for dots in ["300", "203"] {
+            let asked = [options, &["--dots", dots]].concat();
+            assert_eq!(prints(&asked, &input[..second]), slot_lines(&words));
+            let mut sixth = [locked; 7];
+            sixth[5] = "RELEASED";
+            assert_eq!(prints(&asked, &input[..voided]), slot_lines(&sixth));
+            assert_eq!(prints(&asked, &input[..voided + 3]), slot_lines(&words));
+            let mut fifth = [locked; 7];
+            fifth[4] = "RELEASED";
+            assert_eq!(prints(&asked, &input), slot_lines(&fifth));
+        }
+    }
+}
+
+/// Asked for slots at the columns 10 and 20.
+#[test]
+fn slots_one_by_one() {
+    let none = "(nothing)";
+    let cases: [(&[u8], [&str; 2]); 26] = [
+        (b"", [none, none]),
+        // The columns 9, 10, 19 and 20.
+        (b"         X", [none, none]),
+        (b"          X", ["X", none]),
+        (b"                   X", ["X", none]),
+        (b"                    X", [none, "X"]),
+        // Two words, letters apart, and letters that came in another order.
+        (b"\x1B$\x3C\x00NOT FREE", ["NOT FREE", none]),
+        // Text of which a part lies in a slot is whole in it, and marked.
+        (
+            b"\x1B$\x3C\x00NOT RELEASED",
+            [
+                "NOT RELEASED (runs past the slot)",
+                "NOT RELEASED (begins before the slot)",
+            ],
+        ),
+        (
+            b"        UNRELEASED",
+            ["UNRELEASED (begins before the slot)", none],
+        ),
+        (
+            b"      SO UNRELEASED",
+            ["SO UNRELEASED (begins before the slot)", none],
+        ),
+        (
+            b"        NOT RELEASED-",
+            [
+                "NOT RELEASED- (begins before the slot, runs past the slot)",
+                "NOT RELEASED- (begins before the slot)",
+            ],
+        ),
+        (
+            b"               LOCKED-OUT-NOW",
+            [
+                "LOCKED-OUT-NOW (runs past the slot)",
+                "LOCKED-OUT-NOW (begins before the slot)",
+            ],
+        ),
+        // So it is where a newer line has something beside the slot.
+        (
+            b"                  UNRELEASED\r\n\x1B$\x3C\x00HELD      ",
+            ["HELD", "UNRELEASED (begins before the slot)"],
+        ),
+        // A word at the slot's first column is its own, and so is one behind a
+        // gap; but not one to which text from within another slot leads.
+        (
+            b"\x1B$\x60\x00NOT RELEASED",
+            [
+                "NOT RELEASED (runs past the slot)",
+                "NOT RELEASED (begins before the slot)",
+            ],
+        ),
+        (b"          DOOR SHUT RELEASED", ["DOOR SHUT", "RELEASED"]),
+        (b"    STATE INHIBITED RELEASED", ["INHIBITED", "RELEASED"]),
+        (
+            b"     STATE   HELD  RELEASED ",
+            [
+                "HELD RELEASED (runs past the slot)",
+                "RELEASED (begins before the slot)",
+            ],
+        ),
+        (b"   STATE   HELD       FREE  ", ["HELD", "FREE"]),
+        // Letters struck over each other: the newer one, but no blank, and no
+        // underscore.
+        (b"\x1B$\x3C\x00HELD\x1B$\x3D\x00FREE", ["FREE", none]),
+        (
+            b"\x1B$\x3C\x00HELD\x1B$\x3C\x00____\x1B$\x3C\x00    ",
+            ["HELD", none],
+        ),
+        (b"\x1B$\x3B\x00A\x1B$\x3C\x00B", ["B", none]),
+        (b"\x1B$\x3C\x00____\x1B$\x3C\x00HELD", ["HELD", none]),
+        (b"\x1B$\x3C\x00A\x1B$\x54\x00B", ["A B", none]),
+        (
+            b"\x1B$\x42\x00EL\x1B$\x3C\x00H\x1B$\x4E\x00D",
+            ["HELD", none],
+        ),
+        // A newer line, a page turned, a new top.
+        (b"\x1B$\x3C\x00RELEASED\n\x1B$\x3C\x00HELD", ["HELD", none]),
+        (b"\x1B$\x3C\x00RELEASED\x0C", [none, none]),
+        (b"\x1B$\x3C\x00RELEASED\x1B@", [none, none]),
+    ];
+    for (input, words) in cases {
+        let came = prints(&["--slots", "10,20"], input);
+        assert_eq!(came, slot_lines(&words), "{}", input.escape_ascii());
+    }
+    assert_eq!(prints(&["--slots", "0"], b"AB C"), slot_lines(&["AB C"]));
+    let narrow = ["--slots", "10,30", "--width", "7200"];
+    assert_eq!(prints(&narrow, b""), slot_lines(&[none, none]));
+}
+
+/// A word that begins before its slot is whole in both.
+#[test]
+fn a_word_across_two_slots() {
+    let input = [&[b' '; 38][..], b"UNRELEASED"].concat();
+    for dots in ["300", "203"] {
+        let asked = [&SLOTS[..], &["--dots", dots]].concat();
+        let mut words = ["(nothing)"; 7];
+        (words[2], words[3]) = (
+            "UNRELEASED (runs past the slot)",
+            "UNRELEASED (begins before the slot)",
+        );
+        assert_eq!(prints(&asked, &input), slot_lines(&words));
+    }
+}
+
+/// A value after `=` is taken byte by byte, as a file's name is.
+#[test]
+fn a_name_that_is_no_text() {
+    let folder = Folder::new("card-bytes");
+    let name = OsStr::from_bytes(b"page\xFF-1.svg");
+    let mut word = b"--svg=".to_vec();
+    word.extend_from_slice(folder.0.as_os_str().as_bytes());
+    word.extend_from_slice(b"/page\xFF");
+    let mut command = card(&[]);
+    command.arg(OsStr::from_bytes(&word));
+    command.stdin(fs::File::open(stored("moves.prn")).unwrap());
+    let child = command.spawn().unwrap();
+    let _limit = Limit::new(&child);
+    assert_eq!(child.wait_with_output().unwrap().status.code(), Some(0));
+    assert!(folder.0.join(name).is_file());
+}
+
+#[test]
+fn stops_in_force() {
+    let nine = slot_lines(&["A", "(nothing)", "(nothing)", "(nothing)"]);
+    let came = prints(&["--slot-stops"], b"\tA");
+    assert!(came.starts_with(&nine), "{came}");
+    assert_eq!(came.lines().count(), 9);
+    // With 12 to the inch, and a left margin, the stop is elsewhere.
+    let input = b"\x1BM\x1Bl\x02\x1BD\x04\x08\x00\tA\tB";
+    assert_eq!(prints(&["--slot-stops"], input), slot_lines(&["A", "B"]));
+    // Stops past the margin are not reached: 8 and 16 of 20 columns are.
+    let came = prints(&["--slot-stops", "--width", "7200"], b"");
+    assert_eq!(came, slot_lines(&["(nothing)"; 2]));
+    // A word that is not at its stop, as where the pitch has moved these.
+    let input = b"\x1BD\x0A\x14\x00\tHELD\x0F";
+    let moved = slot_lines(&[
+        "HELD (begins after the stop, runs past the slot)",
+        "HELD (begins before the slot)",
+    ]);
+    assert_eq!(prints(&["--slot-stops"], input), moved);
+    let came = prints(&["--slot-stops"], b"\x1BD\x00");
+    assert_eq!(came, "no tab stop is in force, so there are no slots\n");
+}
+
+#[test]
+fn help_and_version() {
+    let help = prints(&["--help"], b"");
+    assert!(help.starts_with("card [OPTION..] [FILE..]\n"));
+    for option in [
+        "--dots",
+        "--width",
+        "--auto-feed",
+        "--cpi",
+        "--svg",
+        "--slots",
+        "--slot-stops",
+        "--follow",
+        "--help",
+        "--version",
+    ] {
+        assert!(help.contains(&format!("\n  {option} ")), "{option}");
+    }
+    assert!(help.lines().all(|line| line.len() <= 90));
+    let version = format!("card {}\n", env!("CARGO_PKG_VERSION"));
+    assert_eq!(prints(&["--version", "--dots", "1"], b""), version);
+}
+
+#[test]
+fn settings() {
+    assert_eq!(prints(&[], b"A\rB"), "B\n");
+    assert_eq!(prints(&["--auto-feed"], b"A\rB"), "A\nB\n");
+    assert_eq!(prints(&[], b"\x1B$\x01\x00A\rB"), "B\n");
+    assert_eq!(prints(&["--follow"], b"A\nB"), "A\nB\n\x0C\n");
+    assert_eq!(prints(&["--cpi", "5"], b"A   B   C"), "A B C\n");
+    assert_eq!(prints(&["--cpi=20"], b"AB C"), "A B   C\n");
+    assert_eq!(prints(&["--dots=204", "--dots", "000000203"], b"A"), "A\n");
+    assert_eq!(prints(&[], b""), "");
+    assert_eq!(prints(&[], b" \x0C\x0C"), "\n");
+}
+
+/// Bad usage is one line on standard error, nothing on standard output, and
+/// status 2.
+fn refused(words: &[&str], problem: &str) {
+    let output = run(words, b"A");
+    assert_eq!(output.status.code(), Some(2), "{words:?}");
+    assert_eq!(output.stdout, b"", "{words:?}");
+    let came = String::from_utf8(output.stderr).unwrap();
+    assert_eq!(came, format!("card: {problem}\n"), "{words:?}");
+}
+
+#[test]
+fn bad_values() {
+    let bad: [(&str, &str, &[&str]); 5] = [
+        (
+            "--dots",
+            "203 or 300",
+            &["0", "202", "301", "", "x", "-1", "+203", "0000000203"],
+        ),
+        (
+            "--width",
+            "7200 to 28800",
+            &["0", "7199", "28801", "", "wide", "4294974496"],
+        ),
+        ("--cpi", "1 to 100", &["0", "101", "ten", ""]),
+        (
+            "--slots",
+            "columns from 0 to 79, ascending, as 10,20,30",
+            &["", "10,", ",10", "10,10", "20,10", "80", "10;20", "-1"],
+        ),
+        ("--svg", "the beginning of the pictures' names", &[""]),
+    ];
+    for (name, taken, values) in bad {
+        let problem = format!("{name} takes {taken}");
+        refused(&[name], &problem);
+        for value in values {
+            refused(&[name, value], &problem);
+            refused(&["--auto-feed", &format!("{name}={value}"), "-"], &problem);
+        }
+    }
+    refused(&["--dots", "300", "--dots=204"], "--dots takes 203 or 300");
+}
+
+#[test]
+fn bad_words() {
+    for flag in [
+        "--auto-feed",
+        "--slot-stops",
+        "--follow",
+        "--help",
+        "--version",
+    ] {
+        refused(&[&format!("{flag}=1")], &format!("{flag} takes no value"));
+    }
+    for word in ["--dot", "-x", "---", "--Dots"] {
+        let problem = format!("{word} is no option; see card --help");
+        refused(&[word, "300"], &problem);
+    }
+    refused(&["-a\nb"], "-a\\nb is no option; see card --help");
+    let problem = "--follow draws on the screen, and takes no --svg";
+    refused(&["--follow", "--svg", "x"], problem);
+}
+
+/// A failure is one line on standard error that begins so, and status 1.
+fn failed(output: Output, problem: &str) {
+    assert_eq!(output.status.code(), Some(1), "{problem}");
+    let came = String::from_utf8(output.stderr).unwrap();
+    assert!(came.starts_with(&format!("card: {problem}: ")), "{came}");
+    assert_eq!(came.lines().count(), 1, "{came}");
+}
+
+#[test]
+fn reading_and_writing_failed() {
+    let folder = Folder::new("card-failed");
+    let name = folder.0.to_str().unwrap();
+    let missing = format!("{name}/missing");
+    let output = run(&["-", &missing], b"A");
+    assert_eq!(output.stdout, b"");
+    failed(output, &missing);
+    failed(run(&[name], b""), name);
+    // What was read before is shown.
+    let output = run(&["-", name], b"A\x0CB");
+    assert_eq!(output.stdout, b"A\n---- page 2 ----\nB\n");
+    failed(output, name);
+    let output = run(&["--slots", "0", "-", name], b"HELD");
+    assert_eq!(output.stdout, slot_lines(&["HELD"]).as_bytes());
+    failed(output, name);
+    failed(run(&["--follow", name], b""), name);
+    let prefix = format!("{name}/none/page");
+    failed(run(&["--svg", &prefix], b"A"), &format!("{prefix}-1.svg"));
+    for words in [&[][..], &["--help"], &["--follow"], &SLOTS] {
+        let full = fs::OpenOptions::new()
+            .write(true)
+            .open("/dev/full")
+            .unwrap();
+        let mut command = card(words);
+        command.stdin(fs::File::open(stored("moves.prn")).unwrap());
+        let child = command.stdout(full).stderr(Stdio::piped()).spawn().unwrap();
+        let _limit = Limit::new(&child);
+        let output = child.wait_with_output().unwrap();
+        failed(output, "standard output");
+    }
+}
+
+/// Writes an input to a child over and over, up to so many bytes, or until it
+/// has ended; the pipe is still open then.
+fn feed(child: &mut Child, input: &[u8], bytes: usize) -> Option<std::process::ChildStdin> {
+    let mut stdin = child.stdin.take().unwrap();
+    let piece = input.repeat((1 << 20) / input.len() + 1);
+    let mut written = 0;
+    while written < bytes {
+        stdin.write_all(&piece).ok()?;
+        written += piece.len();
+    }
+    Some(stdin)
+}
+
+#[test]
+fn a_broken_pipe() {
+    for words in [&[][..], &["--follow"]] {
+        let mut command = card(words);
+        command.stdin(Stdio::piped());
+        command.stdout(Stdio::piped()).stderr(Stdio::piped());
+        let mut child = command.spawn().unwrap();
+        let _limit = Limit::new(&child);
+        let mut lines = BufReader::new(child.stdout.take().unwrap());
+        let input: &[u8] = if words.is_empty() { b"A\n\x0C" } else { b"A\n" };
+        let mut stdin = child.stdin.take().unwrap();
+        stdin.write_all(b"A\n\x0C").unwrap();
+        let mut line = String::new();
+        while !line.ends_with("A\n") {
+            assert!(lines.read_line(&mut line).unwrap() > 0);
+        }
+        drop(lines);
+        // It goes on only until it writes again.
+        child.stdin = Some(stdin);
+        assert!(feed(&mut child, input, 1 << 30).is_none(), "{words:?}");
+        let mut complaint = String::new();
+        child
+            .stderr
+            .take()
+            .unwrap()
+            .read_to_string(&mut complaint)
+            .unwrap();
+        assert_eq!(complaint, "");
+        assert_eq!(child.wait().unwrap().code(), Some(0), "{words:?}");
+    }
+}
+
+/// The most memory that a program has taken, in KiB.
+fn peak(child: &Child) -> u64 {
+    let status = fs::read_to_string(format!("/proc/{}/status", child.id())).unwrap();
+    let line = status.lines().find_map(|line| line.strip_prefix("VmHWM:"));
+    let number = line.unwrap().trim().strip_suffix(" kB");
+    number.unwrap().parse().unwrap()
+}
+
+/// A capture of so many bytes, of which this is repeated, takes at most this
+/// much memory, in KiB.
+fn long(words: &[&str], input: &[u8], bytes: usize, most: u64) {
+    let mut command = card(words);
+    command.stdin(Stdio::piped()).stdout(Stdio::null());
+    let mut child = command.spawn().unwrap();
+    let _limit = Limit::new(&child);
+    let stdin = feed(&mut child, input, bytes).unwrap();
+    let peak = peak(&child);
+    assert!(peak > 0 && peak <= most, "{words:?}: {peak} KiB");
+    drop(stdin);
+    assert_eq!(child.wait().unwrap().code(), Some(0));
+}
+
+#[test]
+fn a_hundred_megabytes() {
+    let mut input = fs::read(stored("moves.prn")).unwrap();
+    input.push(0x0C);
+    long(&[], &input, 100_000_000, 16 << 10);
+    long(&SLOTS, &input, 100_000_000, 16 << 10);
+}
+
+/// Pages of images: at 180 to the inch, a page of them.
+#[test]
+fn images_without_end() {
+    let columns = 1_440_u16;
+    let [low, high] = columns.to_le_bytes();
+    let mut line = vec![0x1B, b'*', 39, low, high];
+    line.extend((0..3 * columns).map(|place| place as u8));
+    line.extend(b"\r\x1BJ\x18");
+    let mut page = line.repeat(80);
+    page.push(0x0C);
+    long(&[], &page, 20_000_000, 16 << 10);
+}
+
+/// A page that never ends is no more than what can be seen of it.
+#[test]
+fn a_line_written_over_without_end() {
+    let input = b"STATE  LOCKED  \x1BK\x03\x00\x01\x02\x03RELEASED\r";
+    long(&[], input, 20_000_000, 16 << 10);
+    // So are lines of which each is written over and over.
+    let line = [&input.repeat(1_000)[..], b"\n"].concat();
+    long(&[], &line, 20_000_000, 16 << 10);
+    let came = prints(&["--slots", "15"], &input.repeat(100_000));
+    assert!(
+        came.starts_with("slot 1 (electricians: 0)  RELEASED\n"),
+        "{came}"
+    );
+}
