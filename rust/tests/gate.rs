@@ -124,23 +124,25 @@ fn the_very_picture() {
 /// and FF at the end it turns no page, and its columns are whole.
 #[test]
 fn nothing_passed_over() {
-    let list = read(300, SENT.len());
-    let no = |record: &Record| matches!(record, Record::No { .. } | Record::Tx { .. });
-    assert!(!list.iter().any(no));
-    let new_top = Record::Ln {
-        row: 0,
-        pages: NEW_TOP,
-    };
-    let turned = Record::Ln { row: 0, pages: 1 };
-    assert_eq!(list[0], new_top);
-    assert_eq!(list[list.len() - 2..], [turned, new_top]);
-    let page = &list[1..list.len() - 2];
-    let turns = |record: &Record| matches!(record, Record::Ln { pages: 1.., .. });
-    assert!(!page.iter().any(turns));
-    let parts = page.iter().filter_map(|record| match record {
-        Record::Im { part, .. } => Some(*part),
-        _ => None,
-    });
-    let parts: Vec<u8> = parts.collect();
-    assert!(parts.chunks(3).all(|column| column == [1, 2, 3]));
+    for across in [300, 203] {
+        let list = read(across, SENT.len());
+        let no = |record: &Record| matches!(record, Record::No { .. } | Record::Tx { .. });
+        assert!(!list.iter().any(no), "{across} dots");
+        let new_top = Record::Ln {
+            row: 0,
+            pages: NEW_TOP,
+        };
+        let turned = Record::Ln { row: 0, pages: 1 };
+        assert_eq!(list[0], new_top);
+        assert_eq!(list[list.len() - 2..], [turned, new_top]);
+        let page = &list[1..list.len() - 2];
+        let turns = |record: &Record| matches!(record, Record::Ln { pages: 1.., .. });
+        assert!(!page.iter().any(turns));
+        let parts = page.iter().filter_map(|record| match record {
+            Record::Im { part, .. } => Some(*part),
+            _ => None,
+        });
+        let parts: Vec<u8> = parts.collect();
+        assert!(parts.chunks(3).all(|column| column == [1, 2, 3]));
+    }
 }

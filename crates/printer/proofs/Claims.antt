@@ -5,7 +5,7 @@ use mathlib.Core.Bool.{Bool, true, false}
 use mathlib.Core.List.{List, [], _∷_, _++_, map, append-assoc, map-append}
 use native.Mathlib.Omega.{arith}
 use lib.Dec.{leb, eqb}
-use Rattle.printer.specs.Tools.{pick, Each, Bytes}
+use Rattle.printer.specs.Tools.{pick, lookup, Each, Bytes}
 use Rattle.printer.specs.Widths.{imageBytes}
 use Rattle.printer.specs.Settings.{acrossOf, downOf}
 use Rattle.printer.specs.Framing.{frame, openedMode, imageWait, afterImageByte}
@@ -13,7 +13,7 @@ use Rattle.printer.specs.Performing.{Event, done, passed, inside, automa
 use Rattle.printer.specs.Deciding.{attempt, decide}
 use Rattle.printer.specs.Steps.{frameAt, eventsIn, nextIn, stepEvents, stepRecords, stepOf, stateAfter, recordsOver, eventsOver}
 use Rattle.printer.specs.Accepted.{Ours}
-use Rattle.printer.specs.InForce.{Image, opened, byteReceived}
+use Rattle.printer.specs.InForce.{Image, imageOfCode, imageOfMode, opened, byteReceived}
 use Rattle.printer.specs.Reckoning.{Axis, moved, exact, Change, controlChange, changeOf, passedInForce, changeBy, Reckoning, reckon, Printed, printedBy, printedAt, Occurrence, event, printed}
 use Rattle.printer.specs.Shown.{Shown, shown, shownAs, shownBy, writes, written}
 use Rattle.printer.specs.Demand3.{Between, NotBelowZero, DoesNotFit, Reckoned, ReckonedAll}
@@ -296,12 +296,14 @@ own-in-step c (automatic n) h o = λ g. tt
 
 -- the reckoning's image is the rules'
 own-density : (d : Density) → opened (Opening.Named d) ≡ imageAt (openedMode (Opening.Named d)) 1
+unfolding imageOfCode lookup
 own-density Density.Single = refl
 own-density Density.Double = refl
 own-density Density.DoubleSpeed = refl
 own-density Density.Quadruple = refl
 
 own-mode : (m : ImageMode) → opened (Opening.Selected m) ≡ imageAt m 1
+unfolding imageOfMode lookup
 own-mode ImageMode.Single = refl
 own-mode ImageMode.Double = refl
 own-mode ImageMode.DoubleSpeed = refl

@@ -3,9 +3,10 @@ use Prim.Native.Nat.{ℕ, suc, _*_, _%_}
 use mathlib.Core.Bool.{Bool, true, false}
 use mathlib.Core.List.{List, [], _∷_, _++_}
 use lib.Dec.{leb, eqb}
-use Rattle.printer.specs.Tools.{pick, both, either, within}
+use Rattle.printer.specs.Tools.{pick, both, either, within, lookup}
 use Rattle.printer.specs.Widths.{advance, columnWidth}
-use Rattle.printer.specs.Types.{Density, ImageMode, ListPart, Mode, Opening, Page, Parameter, Side, Tabs, Pitch, StartSettings, Width}
+use Rattle.printer.specs.Codes.{twoCode, imageModeNumber}
+use Rattle.printer.specs.Types.{ListPart, Mode, Opening, Page, Parameter, Side, Tabs, Pitch, StartSettings, Two, Width}
 
 -- margins, page length, skip and line amount
 pub record Measures : Type 0 where
@@ -213,30 +214,21 @@ listInForce f k (ListPart.Byte b) =
     listsInForce f (f .lists .columns) (f .lists .lines) (f .lists .gathered ++ (ownStop f k b ∷ []))
 listInForce f k (ListPart.End b) = endList f k
 
--- an image opened, by the paper's numbers and not by the rules' tables: ESC K, L, Y, Z
-abbrev pub imageOf : Density → Image
-imageOf Density.Single = image 60 1
-imageOf Density.Double = image 30 1
-imageOf Density.DoubleSpeed = image 30 1
-imageOf Density.Quadruple = image 15 1
+-- an image opened, by the paper's numbers and the bytes received, not by the rules' tables: ESC K, L, Y, Z by the second byte
+unfoldable pub imageOfCode : ℕ → Image
+imageOfCode n = lookup ((0x4B, image 60 1) ∷ (0x4C, image 30 1) ∷ (0x59, image 30 1) ∷ (0x5A, image 15 1) ∷ []) noImage n
 
--- ESC * m
-abbrev pub imageBy : ImageMode → Image
-imageBy ImageMode.Single = image 60 1
-imageBy ImageMode.Double = image 30 1
-imageBy ImageMode.DoubleSpeed = image 30 1
-imageBy ImageMode.Quadruple = image 15 1
-imageBy ImageMode.Crt80 = image 45 1
-imageBy ImageMode.Crt90 = image 40 1
-imageBy ImageMode.Single24 = image 60 3
-imageBy ImageMode.Double24 = image 30 3
-imageBy ImageMode.Crt24 = image 40 3
-imageBy ImageMode.Triple24 = image 20 3
-imageBy ImageMode.Hex24 = image 10 3
+-- ESC * m, by the mode's number as it was received
+unfoldable pub imageOfMode : ℕ → Image
+imageOfMode n =
+    lookup
+    ((0, image 60 1) ∷ (1, image 30 1) ∷ (2, image 30 1) ∷ (3, image 15 1) ∷ (4, image 45 1) ∷ (6, image 40 1) ∷
+    (32, image 60 3) ∷ (33, image 30 3) ∷ (38, image 40 3) ∷ (39, image 20 3) ∷ (40, image 10 3) ∷ [])
+    noImage n
 
 abbrev pub opened : Opening → Image
-opened (Opening.Named d) = imageOf d
-opened (Opening.Selected m) = imageBy m
+opened (Opening.Named d) = imageOfCode (twoCode (Two.Image d))
+opened (Opening.Selected m) = imageOfMode (imageModeNumber m)
 
 -- the last byte of a column
 abbrev pub lastByte : Image → Bool
