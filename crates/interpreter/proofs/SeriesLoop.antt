@@ -3,7 +3,7 @@ use Prim.Native.Nat.{ℕ, zero, suc, _+_, _*_, _-_, _/_, _%_, _≤_, _<_}
 use mathlib.Core.Path.{_≡_, refl, ap, _∙_}
 use mathlib.Core.Bool.{Bool, true, false}
 use mathlib.Core.List.{List, [], _∷_, _++_}
-use native.Mathlib.Nat.{zero-mul, suc-mul, add-zero, sub-zero, mul-one, one-mul, add-mul, mul-le-mul-left, mul-le-mul-right, mod-eq-of-lt}
+use native.Mathlib.Nat.{zero-mul, suc-mul, add-zero, sub-zero, mul-one, add-mul, mul-le-mul-left, mul-le-mul-right, mod-eq-of-lt}
 use native.Mathlib.Numerals.{add-one}
 use native.Mathlib.Omega.{arith}
 use lib.Dec.{eqb}

@@ -5,7 +5,7 @@ use native.Mathlib.Nat.{mul-le-mul-left, mul-one}
 use native.Mathlib.Omega.{arith}
 use borrow.Author.Needs.{needs}
 use denote.Ref.{now}
-use lib.ListN.{length, getD}
+use lib.ListN.{getD}
 use lib.Seq.{take-take}
 use Rattle.interpreter.proofs.SeriesLoop.{part-same, part-length, fewer-line, on-paper, done-within}
 use Rattle.interpreter.proofs.series.place_run.Statement.{statement}

@@ -1,11 +1,10 @@
 -- Image bytes on the registers, or else one: see Taken.
 use Prim.Native.Nat.{_≤_, _<_}
-use mathlib.Core.Path.{_≡_, refl, _∙_}
+use mathlib.Core.Path.{refl}
 use native.Mathlib.Omega.{arith}
 use borrow.Author.Needs.{needs}
 use denote.Ref.{now}
 use lib.ListN.{length, getD}
-use Rattle.printer.specs.Widths.{imageBytes}
 use Rattle.printer.proofs.Modes.{step-within}
 use Rattle.interpreter.specs.Taking.{Fits}
 use Rattle.interpreter.proofs.SeriesLoop.{fewer-fit, none-done, done-few, not-moved, not-written}
