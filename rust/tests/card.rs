@@ -119,19 +119,19 @@ impl Drop for Folder {
 }
 
 /// Text and pictures of a card at both resolutions are the stored ones, with
-/// so many pages; this is said of the text.
+/// so many pages; this is said of the text. Pictures have exact places, so they
+/// are the same at both.
 fn as_stored(name: &str, pages: usize, words: &[&str], said: &str) {
     let input = stored(&format!("{name}.prn"));
     let input = input.to_str().unwrap();
     for (dots, ending) in [("300", ""), ("203", "-203")] {
         let words = [words, &["--dots", dots, input]].concat();
-        let name = format!("{name}{ending}");
-        let text = fs::read_to_string(stored(&format!("{name}.txt"))).unwrap();
-        assert_eq!(prints_and_says(&words, b"", said), text, "{name}");
-        let folder = Folder::new(&format!("card-{name}"));
-        let prefix = folder.0.join(&name);
+        let text = fs::read_to_string(stored(&format!("{name}{ending}.txt"))).unwrap();
+        assert_eq!(prints_and_says(&words, b"", said), text, "{name}{ending}");
+        let folder = Folder::new(&format!("card-{name}{ending}"));
+        let prefix = folder.0.join(name);
         let words = [&words[..], &["--svg", prefix.to_str().unwrap()]].concat();
-        assert_eq!(prints(&words, b""), "", "{name}");
+        assert_eq!(prints(&words, b""), "", "{name}{ending}");
         let names: Vec<String> = (1..=pages)
             .map(|page| format!("{name}-{page}.svg"))
             .collect();
@@ -139,7 +139,7 @@ fn as_stored(name: &str, pages: usize, words: &[&str], said: &str) {
         for picture in &names {
             let came = fs::read_to_string(folder.0.join(picture)).unwrap();
             let kept = fs::read_to_string(stored(picture)).unwrap();
-            assert!(came == kept, "{picture} is another");
+            assert!(came == kept, "{picture} is another at {dots} dots");
         }
     }
 }
@@ -214,12 +214,39 @@ fn words_without_room() {
     assert_eq!(came, "RELEASED  LOCKED    RELEASED  HELD\n");
     let running = b"\x1BMTWELVE TO THE INCH";
     let came = prints_and_says(&[], running, CROWDED);
+    assert_eq!(came, "TWELVE»TO»THE»INCH\n");
+    let came = prints(&["--cpi", "12"], running);
     assert_eq!(came, "TWELVE TO THE INCH\n");
-    assert_eq!(prints(&["--cpi", "12"], running), came);
     // Frames say it too.
     let came = prints(&["--follow"], running);
     let said = CROWDED.strip_prefix("card: ").unwrap().trim_end();
-    assert_eq!(came, format!("TWELVE TO THE INCH\n({said})\n\x0C\n"));
+    assert_eq!(came, format!("TWELVE»TO»THE»INCH\n({said})\n\x0C\n"));
+    // No letter is lost without a sign, even before the first column.
+    let close = b"\x1BM\x0FA\x1B\\\x07\x00B\x1B$\x3C\x00CCC";
+    let came = prints_and_says(&[], close, CROWDED);
+    assert_eq!(came, "A»B       CCC\n");
+}
+
+/// A running line that has no room says of each word that it is not at its place:
+/// RELEASED is on paper under the 3.
+#[test]
+fn running_text_under_a_heading() {
+    let heading = "SLOT      1         2         3         4         5";
+    let line = b"\r\n\x1B$\x3C\x00\x0FLOCKED-SINCE-MON LOCKED-SINCE-TUE RELEASED";
+    let came = prints_and_says(&[], &[heading.as_bytes(), line].concat(), CROWDED);
+    let moved = "          LOCKED-SINCE-MON»LOCKED-SINCE-TUE»RELEASED\n";
+    assert_eq!(came, format!("{heading}\n{moved}"));
+}
+
+/// Letters of one word are beside each other, also where their cells are not.
+#[test]
+fn no_blanks_within_words() {
+    let spaced = b"\x1B \x02XXXXXXXINOPERATIVE";
+    assert_eq!(prints(&[], spaced), "XXXXXXXINOPERATIVE\n");
+    for cpi in ["11", "12", "15", "17"] {
+        let came = prints(&["--cpi", cpi], b"SLOT      UNRELEASED");
+        assert!(came.ends_with(" UNRELEASED\n"), "{came}");
+    }
 }
 
 /// Reduced letters set one by one, a tenth of an inch apart, are one word.
@@ -358,7 +385,7 @@ fn slots_in_which_released_moves() {
 #[test]
 fn slots_one_by_one() {
     let none = "(nothing)";
-    let cases: [(&[u8], [&str; 2]); 26] = [
+    let cases: [(&[u8], [&str; 2]); 29] = [
         (b"", [none, none]),
         // The columns 9, 10, 19 and 20.
         (b"         X", [none, none]),
@@ -412,7 +439,30 @@ fn slots_one_by_one() {
             ],
         ),
         (b"          DOOR SHUT RELEASED", ["DOOR SHUT", "RELEASED"]),
-        (b"    STATE INHIBITED RELEASED", ["INHIBITED", "RELEASED"]),
+        (
+            b"    STATE INHIBITED RELEASED",
+            ["INHIBITED (follows other text)", "RELEASED"],
+        ),
+        (
+            b"GATE1 NOT RELEASED",
+            ["RELEASED (follows other text)", none],
+        ),
+        // A blank between them may be wider than the letters.
+        (
+            b"\x1B$\x68\x00\x0FNOT\x12 \x0FRELEASED",
+            [
+                "NOT RELEASED (runs past the slot)",
+                "NOT RELEASED (begins before the slot)",
+            ],
+        ),
+        // Rows a dot apart are one line.
+        (
+            b"          NOT\x1BJ\x01 RELEASED",
+            [
+                "NOT RELEASED (runs past the slot)",
+                "NOT RELEASED (begins before the slot)",
+            ],
+        ),
         (
             b"     STATE   HELD  RELEASED ",
             [
@@ -493,15 +543,76 @@ fn stops_in_force() {
     // Stops past the margin are not reached: 8 and 16 of 20 columns are.
     let came = prints(&["--slot-stops", "--width", "7200"], b"");
     assert_eq!(came, slot_lines(&["(nothing)"; 2]));
-    // A word that is not at its stop, as where the pitch has moved these.
-    let input = b"\x1BD\x0A\x14\x00\tHELD\x0F";
-    let moved = slot_lines(&[
-        "HELD (begins after the stop, runs past the slot)",
-        "HELD (begins before the slot)",
-    ]);
-    assert_eq!(prints(&["--slot-stops"], input), moved);
+    // A word that is not at its stop.
+    let came = prints(&["--slot-stops"], b"\x1BD\x0A\x14\x00\x1B$\x48\x00HELD");
+    let after = slot_lines(&["HELD (begins after the stop)", "(nothing)"]);
+    assert_eq!(came, after);
     let came = prints(&["--slot-stops"], b"\x1BD\x00");
     assert_eq!(came, "no tab stop is in force, so there are no slots\n");
+}
+
+/// Stops that have moved since a card was printed may be where other words stand:
+/// each slot says so.
+#[test]
+fn stops_that_have_moved() {
+    let card = b"\x1BD\x0A\x14\x1E\x28\x32\x3C\x46\x00STATE\tA\tB\tC\tRELEASED\tE\r\n";
+    // What comes after the card, and the slot that RELEASED is in by the stops
+    // then in force.
+    let moved: [(&[u8], usize); 5] = [
+        (b"\x1BM", 4),
+        (b"\x1B \x12", 1),
+        (b"\x0E", 1),
+        (b"\x1Bl\x0A", 2),
+        (b"\x1BD\x14\x28\x3C\x00", 1),
+    ];
+    for (after, slot) in moved {
+        let came = prints(&["--slot-stops"], &[&card[..], after].concat());
+        let line = came.lines().nth(slot).unwrap();
+        assert!(line.contains("RELEASED"), "{came}");
+        assert!(line.contains("the stops have moved since"), "{came}");
+    }
+    // Where they are as before, nothing is said.
+    let mut words = vec!["A", "B", "C", "RELEASED", "E"];
+    words.resize(7, "(nothing)");
+    for after in [
+        &b""[..],
+        b"\x0Fnote\x12",
+        b"\x1BMnote\x1BP",
+        b"\x0Etitle\r\n",
+    ] {
+        let input = [&card[..], after].concat();
+        assert_eq!(prints(&["--slot-stops"], &input), slot_lines(&words));
+    }
+    // A margin that was in force only while the card was printed.
+    let shifted = [b"\x1Bl\x0A", &card[..], b"\x1Bl\x00"].concat();
+    let came = prints(&["--slot-stops"], &shifted);
+    assert!(
+        came.contains("RELEASED (the stops have moved since"),
+        "{came}"
+    );
+}
+
+/// Places in a picture are the exact ones, in 1/3600 inch, and not those of dots:
+/// the same at both resolutions.
+#[test]
+fn exact_places_in_pictures() {
+    let folder = Folder::new("card-exact");
+    for dots in ["300", "203"] {
+        let prefix = folder.0.join(dots);
+        let words = ["--dots", dots, "--svg", prefix.to_str().unwrap()];
+        let input = b"A\x1B\\\x01\x00B\x1BJ\x01C\x1B*\x27\x02\x00\x80\x00\x00\x80\x00\x00D";
+        assert_eq!(prints(&words, input), "");
+        let picture = fs::read_to_string(folder.0.join(format!("{dots}-1.svg"))).unwrap();
+        for place in [
+            "x=\"0\" y=\"400\"",
+            "x=\"380\" y=\"400\"",
+            "x=\"740\" y=\"420\"",
+            "M1100 20h20v20h-20zM1120 20h20v20h-20z",
+            "x=\"1140\" y=\"420\"",
+        ] {
+            assert!(picture.contains(place), "{place}: {picture}");
+        }
+    }
 }
 
 #[test]
@@ -619,6 +730,8 @@ fn reading_and_writing_failed() {
     assert_eq!(output.stdout, b"");
     failed(output, &missing);
     failed(run(&[name], b""), name);
+    failed(run(&["no\nsuch"], b""), "no\\nsuch");
+    failed(run(&[""], b""), "''");
     // What was read before is shown.
     let output = run(&["-", name], b"A\x0CB");
     assert_eq!(output.stdout, b"A\n---- page 2 ----\nB\n");

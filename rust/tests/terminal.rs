@@ -277,7 +277,7 @@ fn on_a_small_screen() {
     stdin
         .write_all(b"1\r\n2\r\n3\r\n4\r\n123456\r\n1234567")
         .unwrap();
-    let lines = over(&["3", "4", "123456", "12345…"]);
+    let lines = over(&["… 3 l…", "4", "123456", "12345…"]);
     terminal.until(&format!("{HOME}{lines}{BELOW}"));
     drop(stdin);
     assert_eq!(end(&mut child).code(), Some(0));
@@ -288,8 +288,8 @@ fn on_a_small_screen() {
 #[test]
 fn slots_on_a_small_screen() {
     let page = "\x1B[0;1m\u{FF11}\u{FF12}\u{FF13}…\x1B[0m";
-    let all = [page, "slot 1…", "slot 2…"];
-    for (rows, lines) in [(4, &all[..]), (2, &all[2..])] {
+    let all = ["… 2 li…", page, "slot 1…", "slot 2…"];
+    for (rows, lines) in [(5, &all[..]), (2, &all[3..])] {
         let mut terminal = Terminal::new(rows, 7);
         let words = ["--follow", "--slots", "0,1"];
         let (mut child, mut stdin) = start(&terminal, card(&words));

@@ -7,9 +7,10 @@
 
 use crate::input::Input;
 use crate::options::Options;
-use crate::page::{Page, Reader};
+use crate::page::Page;
+use crate::reader::Reader;
 use crate::text::Look;
-use crate::{look, slots, terminal, text, unwritten, Failure, Outcome, PIECE};
+use crate::{care, look, slots, terminal, text, unwritten, Failure, Outcome, PIECE};
 use ierbulosc::State;
 use std::io::{self, Write};
 use std::sync::mpsc::{sync_channel, Receiver, RecvTimeoutError, SyncSender};
@@ -39,7 +40,7 @@ pub fn run(options: Options) -> Outcome<()> {
     let input = Input::new(options.files.clone())?;
     let (sender, pieces) = sync_channel(WAITING);
     thread::spawn(move || send(input, &sender));
-    let mut reader = Reader::new(&options.settings, false);
+    let mut reader = Reader::new(&options.settings, care(&options));
     let mut screen = Screen::new(options);
     screen.draw(&reader)?;
     // When the frame was drawn to which something has come since.
@@ -176,11 +177,16 @@ impl Screen {
 }
 
 /// The last lines of a frame, each cut to so many cells: what has room on the
-/// screen.
+/// screen. Where there are more, the first line says so.
 fn fitting(frame: &str, rows: usize, columns: usize) -> String {
-    let over = frame.lines().count().saturating_sub(rows);
+    let mut above = frame.lines().count().saturating_sub(rows);
     let mut lines = String::new();
-    for line in frame.lines().skip(over) {
+    if above > 0 && rows > 1 {
+        above += 1;
+        text::clip(&format!("… {above} lines above"), columns, &mut lines);
+        lines.push('\n');
+    }
+    for line in frame.lines().skip(above) {
         text::clip(line, columns, &mut lines);
         lines.push('\n');
     }

@@ -21,6 +21,11 @@ const SECOND: Cell = Cell {
     second: true,
     ..EMPTY
 };
+/// What stands for a blank before a word that is further to the right than on
+/// the page.
+const MOVED: Cell = Cell {
+    sign: '»', ..EMPTY
+};
 /// What stands for letters that are cut off.
 const CUT: Cell = Cell {
     sign: '…', ..EMPTY
@@ -54,7 +59,7 @@ impl Grid {
     /// Sets the letters of a line into its cells; whether each word is whole and
     /// begins at its place. Where one has no room there, what reaches into it is
     /// cut; but running text, in which no gap is wider than a blank, goes on to
-    /// the right.
+    /// the right, with a sign before each word that does.
     pub fn place(self, line: &[Letter], cells: &mut Vec<Cell>) -> bool {
         let shown = shown(line, self.across);
         let letters = inked(&shown);
@@ -66,8 +71,8 @@ impl Grid {
             give_way(cells, natural.saturating_sub(1));
             if !cells.is_empty() && natural <= cells.len() {
                 at_places = false;
-                if running {
-                    cells.push(EMPTY);
+                if running || natural == 0 {
+                    cells.push(MOVED);
                 } else {
                     cut(cells, natural);
                 }
@@ -79,12 +84,16 @@ impl Grid {
     }
 
     /// Sets a word behind what is there. A letter that finds its cell taken by
-    /// the one before it goes to the next.
+    /// the one before it goes to the next; one that is less than two cells from
+    /// it does too, since a free cell would read as a blank.
     fn set(self, word: &[Letter], cells: &mut Vec<Cell>) {
-        for letter in word {
+        for (place, letter) in word.iter().enumerate() {
             let natural = self.cell(letter);
             give_way(cells, natural);
-            let cell = natural.max(cells.len());
+            let mut cell = natural.max(cells.len());
+            if place > 0 && self.is_close(&word[place - 1], letter) {
+                cell = cells.len();
+            }
             cells.resize(cell, EMPTY);
             cells.push(Cell {
                 sign: letter.sign,
@@ -95,6 +104,13 @@ impl Grid {
                 cells.push(SECOND);
             }
         }
+    }
+
+    /// Whether a letter is less than two cells, but for a quarter, to the right
+    /// of another.
+    fn is_close(self, before: &Letter, letter: &Letter) -> bool {
+        let apart = u32::from(letter.column - before.last);
+        4 * apart * self.cpi < 7 * self.across
     }
 
     /// Underlines the cells of underlined blanks.

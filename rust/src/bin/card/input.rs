@@ -62,7 +62,10 @@ fn name(file: &OsStr) -> String {
     if file == STANDARD {
         return "standard input".into();
     }
-    file.to_string_lossy().into_owned()
+    match file.to_string_lossy().escape_debug().to_string() {
+        empty if empty.is_empty() => "''".into(),
+        name => name,
+    }
 }
 
 /// The length of a file, if it is one that has a length.

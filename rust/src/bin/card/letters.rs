@@ -14,7 +14,7 @@ pub const DOUBLE_HEIGHT: u16 = 1 << 7;
 pub const OUTLINE: u16 = 1 << 8;
 /// ESC q 2 and 3.
 pub const SHADOW: u16 = 1 << 9;
-const PROPORTIONAL: u16 = 1 << 10;
+pub const PROPORTIONAL: u16 = 1 << 10;
 const ITALIC_TABLE: u16 = 1 << 12;
 
 /// The graphics table from 80h on.

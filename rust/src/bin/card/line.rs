@@ -1,9 +1,14 @@
 //! The letters of a page, and what shows of those that are struck over each
 //! other.
 
-use crate::letters::{character, is_blank, BOLD, DOUBLE_STRIKE, DOUBLE_WIDTH, ITALIC, UNDERLINE};
+use crate::letters::{
+    character, is_blank, BOLD, DOUBLE_STRIKE, DOUBLE_WIDTH, ITALIC, PROPORTIONAL, UNDERLINE,
+};
 use crate::page::Page;
 use ierbulosc::Record;
+
+/// The width of the columns of tab stops in proportional letters, in units.
+const PROPORTIONAL_COLUMN: u16 = 360;
 
 /// The style bits that a terminal shows.
 const SHOWN: u16 = BOLD | ITALIC | UNDERLINE | DOUBLE_WIDTH;
@@ -18,8 +23,10 @@ pub struct Letter {
     pub advance: u16,
     pub sign: char,
     pub style: u16,
-    /// Whether a blank stands before it; see [`inked`].
-    after_blank: bool,
+    /// The columns of the tab stops are as wide.
+    pub column_width: u16,
+    /// The width of the blank right before it, if there is one; see [`inked`].
+    blank: u16,
     /// Its place among the letters as they came.
     order: u32,
 }
@@ -50,7 +57,12 @@ impl Letter {
             advance,
             sign: if is_blank(sign) { ' ' } else { sign },
             style: style & SHOWN,
-            after_blank: false,
+            column_width: if style & PROPORTIONAL != 0 {
+                PROPORTIONAL_COLUMN
+            } else {
+                advance
+            },
+            blank: 0,
             order,
         })
     }
@@ -92,12 +104,12 @@ impl Letter {
     /// and the letter before it.
     pub fn begins_word(&self, before: &Letter, across: u32) -> bool {
         let narrower = i64::from(self.advance.min(before.advance));
-        self.after_blank || 4 * self.gap(before, across) >= 3 * narrower * i64::from(across)
+        self.blank > 0 || 4 * self.gap(before, across) >= 3 * narrower * i64::from(across)
     }
 
     /// Whether more than a blank lies between it and the letter before it.
     pub fn is_far(&self, before: &Letter, across: u32) -> bool {
-        let wider = i64::from(self.advance.max(before.advance));
+        let wider = i64::from(self.advance.max(before.advance).max(self.blank));
         2 * self.gap(before, across) > 3 * wider * i64::from(across)
     }
 }
@@ -124,15 +136,14 @@ pub fn shown(line: &[Letter], across: u32) -> Vec<Letter> {
 /// Those of a line's letters that are no blanks.
 pub fn inked(shown: &[Letter]) -> Vec<Letter> {
     let mut inked = Vec::with_capacity(shown.len());
-    let mut after_blank = false;
+    let mut blank = 0;
     for &letter in shown {
-        if !letter.is_blank() {
-            inked.push(Letter {
-                after_blank,
-                ..letter
-            });
+        if letter.is_blank() {
+            blank = letter.advance;
+        } else {
+            inked.push(Letter { blank, ..letter });
+            blank = 0;
         }
-        after_blank = letter.is_blank();
     }
     inked
 }

@@ -10,6 +10,7 @@ mod line;
 mod options;
 mod page;
 mod progress;
+mod reader;
 mod slots;
 mod svg;
 mod terminal;
@@ -17,9 +18,10 @@ mod text;
 
 use ierbulosc::State;
 use input::Input;
-use options::{choice, Choice, Options, HELP};
-use page::{Page, Reader};
+use options::{choice, Choice, Options, Slots, HELP};
+use page::Page;
 use progress::Progress;
+use reader::{Care, Reader};
 use std::fmt::Display;
 use std::io::{self, ErrorKind, IsTerminal, StdoutLock, Write};
 use std::process::ExitCode;
@@ -151,10 +153,21 @@ impl Shown {
     }
 }
 
+/// What the reader must know of a page.
+fn care(options: &Options) -> Care {
+    if options.svg.is_some() {
+        Care::Places
+    } else if options.slots == Some(Slots::Stops) {
+        Care::Stops
+    } else {
+        Care::Nothing
+    }
+}
+
 /// Reads all, and shows what is asked for.
 fn run(options: Options) -> Outcome<()> {
     let mut input = Input::new(options.files.clone())?;
-    let mut reader = Reader::new(&options.settings, options.svg.is_some());
+    let mut reader = Reader::new(&options.settings, care(&options));
     let mut shown = Shown::new(options, input.total);
     let done = read(&mut input, &mut reader, &mut shown);
     // Pages that were read before a failure are shown all the same.

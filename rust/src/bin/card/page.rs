@@ -1,29 +1,35 @@
-//! A page as it stands, and the reading of bytes into pages.
+//! What stands on a page.
 
-use crate::Outcome;
-use ierbulosc::{records, Records, Settings, State, RECORD_SIZE, ROOM};
+use ierbulosc::{records, Records, RECORD_SIZE};
 use std::collections::HashMap;
 
 /// The bytes of a row's records up to which nothing is looked for that could be
 /// let go: more than a line has that is written a few times, or of images once.
 const MANY_LETTERS: usize = 1 << 14;
 const MANY_IMAGES: usize = 1 << 17;
-/// The room for records of a reading call.
-const OUTPUT: usize = 1 << 16;
-/// So many bytes are read at a time where a page's last state is asked for:
-/// their records have room.
-const PIECE: usize = 512;
-const _: () = assert!(PIECE * ROOM <= OUTPUT);
+/// A letter's font, which nothing shows, among the bytes of its record.
+const FONT: usize = 7;
+
+/// An exact place on the page, in units.
+#[derive(Clone, Copy)]
+pub struct Place {
+    pub across: u32,
+    pub down: u32,
+}
 
 /// Records of one kind that stand on a page, as they came. What a CL has voided
 /// is gone.
 pub struct List {
     bytes: Vec<u8>,
+    /// The places of all, or of none where they are not asked for.
+    pub places: Vec<Place>,
     /// As many bytes are there for good: a CL voids what comes after them.
     line: usize,
     /// As many bytes are of the rows above the present one. No command goes up on
     /// a page, so nothing comes to these any more.
     above: usize,
+    /// As many bytes came before the tab stops moved last.
+    pub before_stops: usize,
     /// Where the bytes of the row grow beyond both, they are thinned.
     many: usize,
     limit: usize,
@@ -33,8 +39,10 @@ impl List {
     fn new(many: usize) -> List {
         List {
             bytes: Vec::new(),
+            places: Vec::new(),
             line: 0,
             above: 0,
+            before_stops: 0,
             many,
             limit: 0,
         }
@@ -48,8 +56,9 @@ impl List {
         records(&self.bytes)
     }
 
-    fn add(&mut self, record: &[u8]) {
+    fn add(&mut self, record: &[u8], place: Option<Place>) {
         self.bytes.extend_from_slice(record);
+        self.places.extend(place);
         if self.bytes.len() - self.above > self.limit.max(self.many) {
             self.thin();
         }
@@ -65,24 +74,37 @@ impl List {
 
     fn void(&mut self) {
         self.bytes.truncate(self.line);
+        self.places.truncate(self.line / RECORD_SIZE);
+        self.before_stops = self.before_stops.min(self.line);
     }
 
-    /// Lets go of records of the row that later ones repeat in every field, as
-    /// where a line is written over itself without end: they show nothing more.
+    /// Lets go of records of the row that later ones repeat, as where a line is
+    /// written over itself without end: they show nothing more.
     #[cold]
     fn thin(&mut self) {
-        let open = newest_of_each(&self.bytes[self.line..]);
-        let good = newest_of_each(&self.bytes[self.above..self.line]);
+        let good = newest_of_each(&self.bytes, self.above..self.line);
+        let open = newest_of_each(&self.bytes, self.line..self.bytes.len());
+        let record = |at: &usize| self.bytes[*at..*at + RECORD_SIZE].to_vec();
+        let kept: Vec<u8> = good.iter().chain(&open).flat_map(record).collect();
+        let place = |at: &usize| self.places.get(at / RECORD_SIZE).copied();
+        let places: Vec<Place> = good.iter().chain(&open).filter_map(place).collect();
         self.bytes.truncate(self.above);
-        self.bytes.extend(good);
-        self.line = self.bytes.len();
-        self.bytes.extend(open);
+        self.bytes.extend(kept);
+        self.places.truncate(self.above / RECORD_SIZE);
+        self.places.extend(places);
+        self.line = self.above + good.len() * RECORD_SIZE;
         self.limit = 2 * (self.bytes.len() - self.above);
+        if self.before_stops > self.above {
+            // Which of them came before is no longer known: all may have.
+            self.before_stops = self.bytes.len();
+        }
     }
 
     fn clear(&mut self) {
         self.bytes.clear();
+        self.places.clear();
         (self.line, self.above, self.limit) = (0, 0, 0);
+        self.before_stops = 0;
     }
 }
 
@@ -96,7 +118,7 @@ pub struct Page {
 }
 
 impl Page {
-    fn new() -> Page {
+    pub fn new() -> Page {
         Page {
             letters: List::new(MANY_LETTERS),
             images: List::new(MANY_IMAGES),
@@ -108,11 +130,12 @@ impl Page {
         self.letters.bytes.is_empty() && self.images.bytes.is_empty()
     }
 
-    /// Takes a record's bytes; whether the page ends with it.
-    fn take(&mut self, record: &[u8]) -> bool {
+    /// Takes a record's bytes, with its place if that is asked for; whether the
+    /// page ends with it.
+    pub fn take(&mut self, record: &[u8], place: Option<Place>) -> bool {
         match *record {
-            [b'T', b'X', ..] => self.letters.add(record),
-            [b'I', b'M', ..] => self.images.add(record),
+            [b'T', b'X', ..] => self.letters.add(record, place),
+            [b'I', b'M', ..] => self.images.add(record, place),
             [b'L', b'N', _, _, low, high, pages, ..] => {
                 let other = self.row != [low, high];
                 self.row = [low, high];
@@ -125,117 +148,41 @@ impl Page {
         false
     }
 
+    /// Another sheet.
+    pub fn clear(&mut self) {
+        self.lists(List::clear);
+    }
+
+    /// The tab stops have moved.
+    pub fn stops_moved(&mut self) {
+        self.letters.before_stops = self.letters.bytes.len();
+    }
+
     fn lists(&mut self, change: impl Fn(&mut List)) {
         change(&mut self.letters);
         change(&mut self.images);
     }
 }
 
-/// The records of a list without those that later ones repeat: of each letter
-/// two are left, since one struck over itself is bold, and of each image byte one.
-fn newest_of_each(list: &[u8]) -> Vec<u8> {
-    let mut seen: HashMap<&[u8], u8> = HashMap::new();
-    let newest = list.chunks_exact(RECORD_SIZE).rev();
-    let mut kept: Vec<&[u8]> = Vec::new();
-    for record in newest {
-        let most = if record.starts_with(b"TX") { 2 } else { 1 };
+/// Where the records of a part of a list begin, without those that later ones of
+/// it repeat: of each letter two are left, since one struck over itself is bold,
+/// and of each image byte one.
+fn newest_of_each(list: &[u8], part: std::ops::Range<usize>) -> Vec<usize> {
+    let mut seen: HashMap<[u8; RECORD_SIZE], u8> = HashMap::new();
+    let mut kept: Vec<usize> = Vec::new();
+    for at in part.step_by(RECORD_SIZE).rev() {
+        let mut record = [0; RECORD_SIZE];
+        record.copy_from_slice(&list[at..at + RECORD_SIZE]);
+        let letter = record.starts_with(b"TX");
+        if letter {
+            record[FONT] = 0;
+        }
         let count = seen.entry(record).or_insert(0);
-        if *count < most {
+        if *count < if letter { 2 } else { 1 } {
             *count += 1;
-            kept.push(record);
+            kept.push(at);
         }
     }
     kept.reverse();
-    kept.concat()
-}
-
-/// What is done with a page that has ended: it gets the page and a state of
-/// the printer before its end.
-pub type Show<'a> = &'a mut dyn FnMut(&Page, &State) -> Outcome<()>;
-
-/// Reads bytes into pages.
-pub struct Reader {
-    state: State,
-    page: Page,
-    out: Vec<u8>,
-    /// Whether the state that goes with a page is to be the very last before
-    /// its end.
-    exact: bool,
-}
-
-impl Reader {
-    /// A reader with these settings, which a start takes.
-    pub fn new(settings: &Settings, exact: bool) -> Reader {
-        Reader {
-            state: State::start(settings).1,
-            page: Page::new(),
-            out: vec![0; OUTPUT],
-            exact,
-        }
-    }
-
-    /// The state of the printer now.
-    pub fn state(&self) -> &State {
-        &self.state
-    }
-
-    /// The present page.
-    pub fn page(&self) -> &Page {
-        &self.page
-    }
-
-    /// Reads these bytes. Each page that ends and has something on it is shown.
-    pub fn read(&mut self, mut input: &[u8], show: Show) -> Outcome<()> {
-        let allowance = if self.exact { PIECE } else { usize::MAX };
-        while !input.is_empty() {
-            let before = self.state;
-            let report = self.state.read(input, allowance, &mut self.out);
-            let (piece, rest) = input.split_at(report.read);
-            if self.exact && turns(&self.out[..report.written]) {
-                self.state = before;
-                self.read_by_bytes(piece, show)?;
-            } else {
-                self.take(report.written, &before, show)?;
-            }
-            input = rest;
-        }
-        Ok(())
-    }
-
-    /// Reads these bytes by a call for each.
-    fn read_by_bytes(&mut self, input: &[u8], show: Show) -> Outcome<()> {
-        for byte in input.chunks(1) {
-            let before = self.state;
-            let report = self.state.read(byte, 1, &mut self.out);
-            self.take(report.written, &before, show)?;
-        }
-        Ok(())
-    }
-
-    /// Takes the records of the output's first bytes.
-    fn take(&mut self, written: usize, before: &State, show: Show) -> Outcome<()> {
-        for record in self.out[..written].chunks_exact(RECORD_SIZE) {
-            if self.page.take(record) {
-                if !self.page.is_empty() {
-                    show(&self.page, before)?;
-                }
-                self.page.lists(List::clear);
-            }
-        }
-        Ok(())
-    }
-
-    /// The input has ended: shows the present page, if something is on it.
-    pub fn end(&mut self, show: Show) -> Outcome<()> {
-        if self.page.is_empty() {
-            return Ok(());
-        }
-        show(&self.page, &self.state)
-    }
-}
-
-/// Whether a page ends in these records.
-fn turns(written: &[u8]) -> bool {
-    let mut records = written.chunks_exact(RECORD_SIZE);
-    records.any(|record| matches!(*record, [b'L', b'N', _, _, _, _, pages, ..] if pages > 0))
+    kept
 }

@@ -8,6 +8,8 @@ use std::fmt::Write;
 
 /// The units of a column at 10 to the inch.
 const COLUMN: u32 = 360;
+/// Half the height of a letter in units.
+const HALF_A_LETTER: u32 = 240;
 
 /// Appends a line for each slot. The driver counts slots from 1, the
 /// electricians from 0.
@@ -23,7 +25,7 @@ pub fn draw(page: &Page, state: &State, slots: &Slots, text: &mut String) {
             end: next.unwrap_or_else(|| dot(state.paper_width, state)),
             begins: &begins,
             at_stops: *slots == Slots::Stops,
-            across: state.dots_across,
+            state,
         };
         let standing = slot.standing(page);
         let standing = standing.as_deref().unwrap_or("(nothing)");
@@ -59,16 +61,15 @@ struct Slot<'a> {
     /// The first columns of all slots, and whether these are tab stops.
     begins: &'a [u16],
     at_stops: bool,
-    /// Dots to the inch.
-    across: u32,
+    state: &'a State,
 }
 
 impl Slot<'_> {
     /// What stands there now: what the newest line there has, and what is to be
     /// said of its place.
     fn standing(&self, page: &Page) -> Option<String> {
-        let row = newest_row(page.letters.bytes(), self.from, self.end.saturating_sub(1))?;
-        let line = line(page, row, self.across);
+        let newest = newest(page.letters.bytes(), self.from, self.end.saturating_sub(1))?;
+        let line = line(page, newest.row, self.state);
         let inked = inked(&line);
         let first = inked.partition_point(|letter| letter.last < self.from);
         let past = inked.partition_point(|letter| letter.column < self.end);
@@ -78,19 +79,53 @@ impl Slot<'_> {
         let parted = |place: &usize| self.parted(&inked, *place);
         let begin = (1..=first).rev().find(parted).unwrap_or(0);
         let end = (past..inked.len()).find(parted).unwrap_or(inked.len());
-        let off_stop = self.at_stops && !line.iter().any(|letter| is_at(letter, self.from));
+        let moved = newest.offset < page.letters.before_stops
+            || !inked[first..past]
+                .iter()
+                .all(|letter| self.is_in_pitch(letter));
+        let off_stop = !line.iter().any(|letter| is_at(letter, self.from));
         let notes = [
             (begin < first, "begins before the slot"),
-            (begin == first && off_stop, "begins after the stop"),
+            (
+                begin == first && self.is_after_label(&inked[..=first]),
+                "follows other text",
+            ),
+            (self.at_stops && moved, "the stops have moved since"),
+            (
+                self.at_stops && !moved && begin == first && off_stop,
+                "begins after the stop",
+            ),
             (end > past, "runs past the slot"),
         ];
         let notes = notes.iter().filter(|(told, _)| *told);
         let notes: Vec<&str> = notes.map(|(_, note)| *note).collect();
-        let words = words(&inked[begin..end], self.across);
+        let words = words(&inked[begin..end], self.dots());
         Some(match notes[..] {
             [] => words,
             _ => format!("{words} ({})", notes.join(", ")),
         })
+    }
+
+    /// Dots to the inch.
+    fn dots(&self) -> u32 {
+        self.state.dots_across
+    }
+
+    /// Whether the columns of the tab stops in force are as wide as this letter's
+    /// were.
+    fn is_in_pitch(&self, letter: &Letter) -> bool {
+        u32::from(letter.column_width) == self.state.column_width
+    }
+
+    /// Whether the last of these letters comes one blank after others that stand
+    /// before all slots.
+    fn is_after_label(&self, inked: &[Letter]) -> bool {
+        match inked {
+            [.., before, letter] => {
+                before.column < self.begins[0] && !letter.is_far(before, self.dots())
+            }
+            _ => false,
+        }
     }
 
     /// Whether another text begins with this letter, which is not the first one:
@@ -98,8 +133,8 @@ impl Slot<'_> {
     /// within another slot goes on there.
     fn parted(&self, inked: &[Letter], place: usize) -> bool {
         let (before, letter) = (&inked[place - 1], &inked[place]);
-        let word = letter.begins_word(before, self.across);
-        letter.is_far(before, self.across)
+        let word = letter.begins_word(before, self.dots());
+        letter.is_far(before, self.dots())
             || word && self.is_begin(letter) && self.is_apart(&inked[..place])
     }
 
@@ -109,10 +144,10 @@ impl Slot<'_> {
         let own = |letter: &Letter| self.is_begin(letter) || letter.column < self.begins[0];
         for pair in inked.windows(2).rev() {
             let (before, letter) = (&pair[0], &pair[1]);
-            if letter.begins_word(before, self.across) && own(letter) {
+            if letter.begins_word(before, self.dots()) && own(letter) {
                 return true;
             }
-            if letter.is_far(before, self.across) {
+            if letter.is_far(before, self.dots()) {
                 return false;
             }
         }
@@ -130,21 +165,34 @@ fn is_at(letter: &Letter, column: u16) -> bool {
     letter.column.abs_diff(column) <= 1
 }
 
-/// The row of the newest letter from one column to another.
-fn newest_row(list: &[u8], from: u16, to: u16) -> Option<u16> {
+/// The newest letter from one column to another.
+struct Newest {
+    row: u16,
+    /// Where its record begins in the list.
+    offset: usize,
+}
+
+fn newest(list: &[u8], from: u16, to: u16) -> Option<Newest> {
     let (_, part) = slot(list, from, to);
     match records(part).next() {
-        Some(Record::Tx { row, .. }) => Some(row),
+        Some(Record::Tx { row, .. }) => Some(Newest {
+            row,
+            offset: part.as_ptr() as usize - list.as_ptr() as usize,
+        }),
         _ => None,
     }
 }
 
-/// The letters of a row as they show, from the left.
-fn line(page: &Page, row: u16, across: u32) -> Vec<Letter> {
-    let of_row = letters(page, across).filter(|letter| letter.row == row);
+/// The letters of a row as they show, from the left, with those of rows that are
+/// too close to be another line.
+fn line(page: &Page, row: u16, state: &State) -> Vec<Letter> {
+    let close = |letter: &Letter| {
+        u32::from(letter.row.abs_diff(row)) * 3_600 < HALF_A_LETTER * state.dots_down
+    };
+    let of_row = letters(page, state.dots_across).filter(close);
     let mut line: Vec<Letter> = of_row.collect();
     line.sort_by_key(|letter| letter.column);
-    shown(&line, across)
+    shown(&line, state.dots_across)
 }
 
 /// Letters as text, with a space between words.

@@ -39,7 +39,7 @@ fn picture(number: u64, page: &Page, state: &State) -> String {
     let mut svg = String::new();
     // Writing to a string does not fail.
     let _ = head(&mut svg, number, state);
-    images(&mut svg, page, state);
+    images(&mut svg, page);
     letters(&mut svg, page, state);
     svg + "</svg>\n"
 }
@@ -55,30 +55,6 @@ fn whole(svg: &mut String, mut number: u32) {
         number /= 10;
     }
     svg.extend(digits[begin..].iter().map(|&digit| char::from(digit)));
-}
-
-/// Appends a number of hundredths.
-fn hundredths(svg: &mut String, number: u32) {
-    whole(svg, number / 100);
-    let (tenths, rest) = (number / 10 % 10, number % 10);
-    if tenths > 0 || rest > 0 {
-        svg.push('.');
-        whole(svg, tenths);
-    }
-    if rest > 0 {
-        whole(svg, rest);
-    }
-}
-
-/// The place of a dot column, in hundredths of a unit.
-fn place(column: u16, dots_across: u32) -> u32 {
-    (u32::from(column) * 360_000 + dots_across / 2) / dots_across
-}
-
-/// The place so many units below a row. Rows are whole units: an inch has 300 or
-/// 200 of them.
-fn below(row: u16, units: u32, dots_down: u32) -> u32 {
-    u32::from(row) * 3_600 / dots_down + units
 }
 
 /// The paper in its real size, and the margins: left, right and, where lines
@@ -108,21 +84,19 @@ fn head(svg: &mut String, number: u64, state: &State) -> fmt::Result {
 }
 
 /// The dots of the image bytes.
-fn images(svg: &mut String, page: &Page, state: &State) {
+fn images(svg: &mut String, page: &Page) {
     let mut path = String::new();
-    for record in page.images.records() {
+    for (record, place) in page.images.records().zip(&page.images.places) {
         if let Record::Im {
-            column,
-            row,
             byte,
             part,
             advance,
+            ..
         } = record
         {
-            let left = place(column, state.dots_across);
-            let (units, height) = down(part);
-            let top = below(row, units, state.dots_down);
-            dots(&mut path, byte, (left, top), (advance.into(), height));
+            let (below, height) = down(part);
+            let corner = (place.across, place.down + below);
+            dots(&mut path, byte, corner, (advance.into(), height));
         }
     }
     if !path.is_empty() {
@@ -130,8 +104,8 @@ fn images(svg: &mut String, page: &Page, state: &State) {
     }
 }
 
-/// The dots of an image byte, those that lie on each other as one: its left in
-/// hundredths of a unit, its top, and a dot's size.
+/// The dots of an image byte, those that lie on each other as one: its left, its
+/// top, and a dot's size.
 fn dots(path: &mut String, byte: u8, (left, top): (u32, u32), (width, height): (u32, u32)) {
     let mut bit = 0;
     while bit < 8 {
@@ -139,7 +113,7 @@ fn dots(path: &mut String, byte: u8, (left, top): (u32, u32), (width, height): (
         let (white, black) = (rest.leading_zeros(), rest.leading_ones());
         if black > 0 {
             path.push('M');
-            hundredths(path, left);
+            whole(path, left);
             path.push(' ');
             whole(path, top + bit * height);
             path.push('h');
@@ -163,10 +137,8 @@ fn letters(svg: &mut String, page: &Page, state: &State) {
         *svg += "stdDeviation=\"0\" flood-opacity=\"0.4\"/></filter>\n";
     }
     *svg += &format!("<g font-family=\"monospace\" font-size=\"{SIZE}\">\n");
-    for record in page.letters.records() {
+    for (record, place) in page.letters.records().zip(&page.letters.places) {
         if let Record::Tx {
-            column,
-            row,
             byte,
             style,
             country,
@@ -180,9 +152,9 @@ fn letters(svg: &mut String, page: &Page, state: &State) {
             }
             let (size, baseline) = hanging(style);
             *svg += "<text x=\"";
-            hundredths(svg, place(column, state.dots_across));
+            whole(svg, place.across);
             *svg += "\" y=\"";
-            whole(svg, below(row, baseline, state.dots_down));
+            whole(svg, place.down + baseline);
             *svg += "\" textLength=\"";
             whole(svg, advance.into());
             *svg += "\" lengthAdjust=\"spacingAndGlyphs\"";
