@@ -3,7 +3,7 @@ use Prim.Native.Nat.{ℕ, zero, suc, _+_, _*_, _-_, _/_, _%_, _≤_, _<_}
 use mathlib.Core.Path.{_≡_, refl, ap, _∙_}
 use mathlib.Core.Bool.{Bool, true, false}
 use mathlib.Core.List.{List, [], _∷_, _++_}
-use native.Mathlib.Nat.{zero-mul, suc-mul, add-zero, sub-zero, mul-one, add-mul, mul-le-mul-left, mul-le-mul-right, mod-eq-of-lt}
+use native.Mathlib.Nat.{zero-mul, suc-mul, add-zero, sub-zero, mul-one, add-mul, mul-le-mul-right, le-mul-of-pos-right, le-of-mul-le-mul-right, mod-eq-of-lt}
 use native.Mathlib.Numerals.{add-one}
 use native.Mathlib.Omega.{arith}
 use lib.Dec.{eqb}
@@ -72,14 +72,9 @@ module _ {done part n bytes k : ℕ} (s : Reached done part n bytes k) where
     pub done-few : done ≤ f .whole
     done-few = go n refl
       where
-        least : (whole j : ℕ) → j * bytes ≤ whole * bytes → j ≤ whole
-        least whole zero c = omega arith
-        least zero (suc j) c = absurd (omega (arith, c, suc-mul j bytes, zero-mul bytes, h))
-        least (suc whole) (suc j) c = omega (arith, least whole j (omega (arith, c, suc-mul j bytes, suc-mul whole bytes)))
-
         go : (j : ℕ) → n ≡ j → done ≤ f .whole
         go zero e = omega (arith, none-done e (h .1))
-        go (suc j) e = least (f .whole) done (omega (arith, s .counted, s .low, f .enough, h .0, e))
+        go (suc j) e = le-of-mul-le-mul-right {k = bytes} (omega (arith, s .counted, s .low, f .enough, h .0, e)) (omega (arith, h))
 
     pub done-within : x + done * step ≤ right
     done-within = let m : done * step ≤ f .whole * step = mul-le-mul-right step done-few in omega (arith, f .in-margin, m)
@@ -183,8 +178,7 @@ module _
   -- so few columns are done
   pub few : s .done ≤ 28800
   few =
-      let m : s .done ≤ s .done * step = rw mul-one at (mul-le-mul-left (s .done) (b .moves)) in
-      omega (arith, line-so-far, m)
+      omega (arith, line-so-far, le-mul-of-pos-right (s .done) (b .moves))
 
   module _ (some : n < length input) where
     next : take (n + 1) input ≡ take n input ++ (getD input n 0 ∷ [])

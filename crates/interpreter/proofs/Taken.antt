@@ -7,7 +7,6 @@ use native.Mathlib.Omega.{arith}
 use lib.Dec.{eqb}
 use lib.ListN.{length, take, getD, set}
 use lib.Seq.{length-take-le}
-use Rattle.printer.specs.Tools.{pick}
 use Rattle.printer.specs.Units.{perInchAcross}
 use Rattle.printer.specs.Records.{recordSize, roomForByte, letterRecord, imageRecord}
 use Rattle.printer.specs.Settings.{advanceOf}
@@ -32,7 +31,7 @@ use Rattle.interpreter.specs.Output.{Written}
 use Rattle.interpreter.specs.Series.{placedAll, Reached, columnsWait}
 use Rattle.interpreter.specs.Taking.{Current, Fits, Letters, RoomForEach, StepPromise, afterByte, TurnPromise}
 use Rattle.interpreter.proofs.Places.{across-held, right-held, across-stored}
-use Rattle.interpreter.proofs.SeriesLoop.{by-test, one-each, done-within}
+use Rattle.interpreter.proofs.SeriesLoop.{one-each, done-within}
 use Rattle.interpreter.proofs.Following.{AreRead, placed-like, some-columns, letters-read, columns-read}
 
 pub byte-taken : {p : Printer} {v : Pending} {input out m after : List ℕ} {back : Stepping} {left : ℕ}
@@ -80,7 +79,7 @@ advance-positive w =
 -- the numbers that the bytes of a column bear are bytes
 pub image-fonts : (m : ImageMode) → columnPart m 1 + imageBytes m ≤ 256
 image-fonts m =
-    by-test (λ (t : Bool). pick t 0 1 + imageBytes m ≤ 256) (eqb (imageBytes m) 1)
+    pick-elim (λ (n : ℕ). n + imageBytes m ≤ 256) (eqb (imageBytes m) 1)
     (λ _. omega (arith, bytes-within m)) (λ _. omega (arith, bytes-within m))
 
 dots-few : (r : Resolution) → perInchAcross r ≤ 300

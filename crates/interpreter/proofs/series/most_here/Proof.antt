@@ -1,6 +1,6 @@
 -- The least of what fits: each is a limit.
 use Prim.Native.Nat.{_*_, _≤_}
-use native.Mathlib.Nat.{zero-mul, mul-le-mul-right, mul-le-mul-left, mul-one}
+use native.Mathlib.Nat.{zero-mul, mul-le-mul-right, le-mul-of-pos-right}
 use native.Mathlib.Omega.{arith}
 use borrow.Author.Needs.{needs}
 use Rattle.printer.proofs.CodeLaws.{product}
@@ -13,7 +13,7 @@ few-bytes : (w : tie.After-least) → w .least .result * w .before .before .befo
 few-bytes w =
     let s = w .before in
     let a = s .before .before .before in
-    let m : s .steps-in .result ≤ s .steps-in .result * a .args .step .0 = rw mul-one at (mul-le-mul-left (s .steps-in .result) (a .pre .0 .0)) in
+    let m = le-mul-of-pos-right (s .steps-in .result) (a .pre .0 .0) in
     product _ _ 28800 255 (omega (arith, w .least .ensures, m, s .steps-in .ensures, a .pre .1 .1)) (omega (arith, a .good))
 
 returns : tie.Need-returns

@@ -1,7 +1,7 @@
 -- As many bytes as print are placed, and the position is moved by as many steps as columns are done.
 use Prim.Native.Nat.{_+_, _*_, _≤_}
 use mathlib.Core.Path.{refl}
-use native.Mathlib.Nat.{mul-le-mul-left, mul-one}
+use native.Mathlib.Nat.{le-mul-of-pos-right}
 use native.Mathlib.Omega.{arith}
 use borrow.Author.Needs.{needs}
 use denote.Ref.{now}
@@ -41,9 +41,7 @@ cast-by : tie.Need-cast-by
 cast-by c =
     let q = c .before .before .before in
     let a = q .before .before .before .before .before .before .before in
-    let s : q .place-all .result .done ≤ q .place-all .result .done * a .args .step .0 =
-    rw mul-one at (mul-le-mul-left (q .place-all .result .done) (a .pre .moves)) in
-    record { fits = omega (arith, s, moved q) }
+    record { fits = omega (arith, le-mul-of-pos-right (q .place-all .result .done) (a .pre .moves), moved q) }
 
 mul-by : tie.Need-mul-by
 mul-by c = record { fits = omega (arith, moved (c .before .before .before .before)) }
