@@ -33,6 +33,20 @@ cl = clearRecord
 abbrev no : Record
 no = passedRecord 1 1
 
+-- an image byte at a column
+abbrev im : (column : ℕ) → Record
+im column =
+    record {
+      mark = Mark.Im;
+      column = record { 0 = column };
+      row = record { 0 = 300 };
+      byte = 65;
+      font = 0;
+      style = 0;
+      country = 0;
+      advance = units 60;
+    }
+
 -- one more than the place of what is found from column 10 to column 20
 abbrev under : List Record → ℕ
 under l = found 10 20 (encodedAll l)
@@ -61,6 +75,19 @@ new-top = refl
 pub once-more : under (tx 10 ∷ cl ∷ tx 20 ∷ no ∷ []) ≡ 3
 unfolding encoded encodedAll marksOf decoded seenOf forward
 once-more = refl
+
+pub two-pages : under (tx 10 ∷ ln 2 ∷ []) ≡ 0
+unfolding encoded encodedAll marksOf decoded seenOf forward
+two-pages = refl
+
+-- an image byte is no letter, shields nothing, voids nothing and turns no page
+pub drawn : under (tx 10 ∷ im 15 ∷ []) ≡ 1
+unfolding encoded encodedAll marksOf decoded seenOf forward
+drawn = refl
+
+pub drawn-voided : under (im 15 ∷ tx 10 ∷ im 15 ∷ cl ∷ []) ≡ 0
+unfolding encoded encodedAll marksOf decoded seenOf forward
+drawn-voided = refl
 
 -- the columns asked for
 pub both-ends : under (tx 10 ∷ tx 20 ∷ tx 21 ∷ tx 9 ∷ []) ≡ 2
