@@ -102,19 +102,38 @@ fn plain(
     })
 }
 
+/// The lines expected of each case: they end with an empty one.
+fn expected() -> Vec<String> {
+    let mut all = vec![String::new()];
+    for line in EXPECTED.lines() {
+        match line {
+            "" => all.push(String::new()),
+            _ => *all.last_mut().unwrap() += &format!("{line}\n"),
+        }
+    }
+    assert_eq!(all.pop().unwrap(), "");
+    all
+}
+
 #[test]
 fn all_readers_give_the_expected_lines() {
     let cases = cases();
-    assert!(cases.len() > 370, "{}", cases.len());
-    let joined: String = cases
-        .iter()
-        .map(|case| proved(case, usize::MAX) + "\n")
-        .collect();
-    assert_eq!(joined, EXPECTED);
-    for case in &cases {
-        let lines = proved(case, usize::MAX);
-        assert_eq!(plain(case, usize::MAX, plain_reader::read), lines);
-        assert_eq!(plain(case, usize::MAX, plain_reader::read_in_runs), lines);
+    let expected = expected();
+    assert!(cases.len() > 600, "{}", cases.len());
+    assert_eq!(cases.len(), expected.len());
+    for (case, lines) in cases.iter().zip(expected) {
+        let input = case.input;
+        assert_eq!(proved(case, usize::MAX), lines, "{input:02x?}");
+        assert_eq!(
+            plain(case, usize::MAX, plain_reader::read),
+            lines,
+            "{input:02x?}"
+        );
+        assert_eq!(
+            plain(case, usize::MAX, plain_reader::read_in_runs),
+            lines,
+            "{input:02x?}"
+        );
     }
 }
 
@@ -124,7 +143,7 @@ fn pieces_give_the_same_lines() {
     let whole = |case: &&Case| case.allowance == 65_535 && case.room > 10_000;
     let cases = cases();
     let cases: Vec<&Case> = cases.iter().filter(whole).collect();
-    assert!(cases.len() > 350, "{}", cases.len());
+    assert!(cases.len() > 580, "{}", cases.len());
     for case in cases {
         let lines = proved(case, usize::MAX);
         for most in [1, 2, 3, 5, 16] {

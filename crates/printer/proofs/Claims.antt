@@ -1,22 +1,22 @@
 -- Demand 3's claim, for events and bytes: the records are those that the reckoning writes, and what it prints is between the margins.
-use Prim.Native.Nat.{ℕ, suc, _+_, _*_, _-_, _≤_}
+use Prim.Native.Nat.{ℕ, zero, suc, _+_, _*_, _-_, _≤_}
 use mathlib.Core.Path.{_≡_, refl}
 use mathlib.Core.Bool.{Bool, true, false}
 use mathlib.Core.List.{List, [], _∷_, _++_, map, append-assoc, map-append}
 use native.Mathlib.Omega.{arith}
 use lib.Dec.{leb, eqb}
-use Rattle.printer.specs.Tools.{pick, lookup, Each, Bytes}
+use Rattle.printer.specs.Tools.{pick, lookup, Each, Bytes, Holds}
 use Rattle.printer.specs.Widths.{imageBytes}
 use Rattle.printer.specs.Settings.{acrossOf, downOf}
 use Rattle.printer.specs.Framing.{frame, openedMode, imageWait, afterImageByte}
 use Rattle.printer.specs.Performing.{Event, done, passed, inside, automatic, Writing, silent, letter, imageByte, feed, clear, recordsBy, Effect, controlAt, effectAt, recordsAt, recordsOf, recordsAll, perform, performAll}
-use Rattle.printer.specs.Deciding.{attempt, decide}
+use Rattle.printer.specs.Deciding.{controlNeeds, needsAt, attempt, decide}
 use Rattle.printer.specs.Steps.{frameAt, eventsIn, nextIn, stepEvents, stepRecords, stepOf, stateAfter, recordsOver, eventsOver}
 use Rattle.printer.specs.Accepted.{Ours}
 use Rattle.printer.specs.InForce.{Image, imageOfCode, imageOfMode, opened, byteReceived}
 use Rattle.printer.specs.Reckoning.{Axis, moved, exact, Change, controlChange, changeOf, passedInForce, changeBy, Reckoning, reckon, Printed, printedBy, printedAt, Occurrence, event, printed}
 use Rattle.printer.specs.Shown.{Shown, shown, shownAs, shownBy, writes, written}
-use Rattle.printer.specs.Demand3.{Between, NotBelowZero, DoesNotFit, Reckoned, ReckonedAll}
+use Rattle.printer.specs.Demand3.{Between, NotBelowZero, LeadsOn, LeadsAs, DoesNotFit, Reckoned, ReckonedAll}
 use Rattle.printer.specs.Types.{Begun, Command, Control, Density, Frame, ImageMode, ListPart, Opening, Place, Printer, Record, Settings, Stops, Tabs, Waiting}
 use Rattle.printer.proofs.Choices.{pick-elim, each-append, each-map}
 use Rattle.printer.proofs.Frames.{NoImage, clash, Framed, begins, single, opensList, opensImage, rests, afterEscape, framed-first, framed-second, framed-argument}
@@ -170,12 +170,45 @@ module _ (p : Printer) (g : Image) (k j : Axis) (f : Tracks p k j) where
   control-claim c m h =
       turn-claim p g k j f _ (controlAt p c m) (control-follows c m h) (keep-control (p .settings) (p .stops) (p .place) c m h (f .bounded .within) .1)
 
+  -- where a control leads is right by the reckoning
+  leads-on : (c : Control) (m : ℕ) → Holds (controlNeeds (p .settings) (p .stops) (p .place) c m) → LeadsOn (from p g k j) c m
+  leads-on Control.CarriageReturn m h = tt
+  leads-on Control.LineFeed zero h = let a = f .down in omega (arith, h .0)
+  leads-on Control.LineFeed (suc m) h = let a = f .down in omega (arith, h .0)
+  leads-on Control.FormFeed m h = tt
+  leads-on Control.HorizontalTab zero h = tt
+  leads-on Control.HorizontalTab (suc m) h = let a = f .across in omega (arith, h .0)
+  leads-on Control.VerticalTab m h = tt
+  leads-on Control.Backspace m h = tt
+  leads-on Control.ShiftOut m h = tt
+  leads-on Control.ShiftIn m h = tt
+  leads-on Control.Dc2 m h = tt
+  leads-on Control.Dc4 m h = tt
+
+  leads-as : (c : Command) (m : ℕ) → Holds (needsAt p c m) → LeadsAs (from p g k j) c m
+  leads-as (Command.Letter b) m h = tt
+  leads-as (Command.Control c b) m h = leads-on c m h
+  leads-as (Command.Refused e) m h = tt
+  leads-as (Command.Silent x) m h = tt
+  leads-as Command.Reset m h = tt
+  leads-as (Command.Mode c) m h = tt
+  leads-as (Command.Parameter c a) m h = tt
+  leads-as (Command.Look x) m h = tt
+  leads-as (Command.Skip a) m h = tt
+  leads-as (Command.Feed a) m h = tt
+  leads-as (Command.Margin side a) m h = tt
+  leads-as (Command.Page x) m h = tt
+  leads-as (Command.Move x a b) m h = tt
+  leads-as (Command.OpenImage o a b) m h = tt
+  leads-as (Command.ImageByte x i b) m h = tt
+  leads-as (Command.List x part) m h = tt
+
   event-claim : (e : Event) → Legal p e → InStepEvent e g
       → Claim (recordsOf p e) (writes (from p g k j) e) (printedAt (from p g k j) e) (Reckoned (from p g k j) (event e))
   unfolding shown
   event-claim (done c m) h i =
       let v = turn-claim p g k j f _ (effectAt p c m) (command-follows c m h i) (keep-done p c m h (f .bounded) .1) in
-      record { same = v .same; between = v .between; reckoned = record { across = v .reckoned .0; down = v .reckoned .1; room = tt; classified = h .classified } }
+      record { same = v .same; between = v .between; reckoned = record { across = v .reckoned .0; down = v .reckoned .1; room = tt; leads = leads-as c m (h .needs); classified = h .classified } }
   event-claim (passed c reason) h i =
       record {
         same = rw (no-byte c);
@@ -185,16 +218,17 @@ module _ (p : Printer) (g : Image) (k j : Axis) (f : Tracks p k j) where
               across = not-below _ _ (f .across);
               down = not-below _ _ (f .down);
               room = does-not-fit p g k j f reason (changeOf (forceOf (p .settings) (p .stops) g) c 0 .writing) (h .overflows g i);
+              leads = tt;
               classified = h .classified;
             };
       }
   event-claim (inside c m) h i =
       let v = control-claim c m h in
-      record { same = v .same; between = v .between; reckoned = record { across = v .reckoned .0; down = v .reckoned .1; room = tt; classified = tt } }
+      record { same = v .same; between = v .between; reckoned = record { across = v .reckoned .0; down = v .reckoned .1; room = tt; leads = leads-on c m h; classified = tt } }
   event-claim (automatic m) h i =
       let v = control-claim Control.LineFeed m (h .0) in
       let a = f .across in let q = f .bounded .within in let u = h .1 in let z = h .2 in
-      record { same = v .same; between = v .between; reckoned = record { across = v .reckoned .0; down = v .reckoned .1; room = omega arith; classified = tt } }
+      record { same = v .same; between = v .between; reckoned = record { across = v .reckoned .0; down = v .reckoned .1; room = omega arith; leads = leads-on Control.LineFeed m (h .0); classified = tt } }
 
 -- Events, then what follows them
 

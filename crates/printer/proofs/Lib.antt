@@ -22,5 +22,7 @@ pub mod NoBytes
 pub mod Claims
 pub mod CallLists
 pub mod ByHand
+pub mod Worked
+pub mod PaperCodes
 pub mod LastSet
 pub mod Theorems

@@ -1,7 +1,7 @@
 -- The theorems about the rules, each stated once.
 use Prim.Native.Nat.{ℕ, _+_, _*_, _≤_, _<_}
 use mathlib.Core.Path.{_≡_, _∙_, ap, sym}
-use mathlib.Core.Bool.{true, false}
+use mathlib.Core.Bool.{Bool, true, false}
 use mathlib.Core.Logic.{_↔_}
 use mathlib.Core.List.{List, [], _∷_, _++_}
 use native.Mathlib.Omega.{arith}
@@ -24,6 +24,10 @@ use Rattle.printer.specs.Cutting.{Readings, joinedInput, lastState, join
 use Rattle.printer.specs.Reckoning.{Motion, sets, Axis, movedAll, Moves, forthOf, backOf, Reckoning, Occurrence, reckonAll, acrossMotion, downMotion, motions}
 use Rattle.printer.specs.Demand3.{Call, started, Chain, Demand3}
 use Rattle.printer.specs.Cases.{CheckedByHand}
+use Rattle.printer.specs.Worked.{InputsWorked, StatesWorked}
+use Rattle.printer.specs.WorkedInputs.{workedInputs}
+use Rattle.printer.specs.WorkedStates.{workedStates}
+use Rattle.printer.specs.PaperCodes.{PaperCodes, ArgumentsTaken}
 use Rattle.printer.specs.Types.{Answer, ImageMode, Reading, Started, Record, StartSettings, Printer, Waiting}
 use Rattle.printer.proofs.Accepting.{fact-accepted, accepted-fact, power-on-accepted, usable-width}
 use Rattle.printer.proofs.KeepingSteps.{steps-ours}
@@ -39,6 +43,8 @@ use Rattle.printer.proofs.LastSet.{last-set, across-moved, down-moved}
 use Rattle.printer.proofs.Answering.{refused-row, read-promise, start-promise}
 use Rattle.printer.proofs.CallLists.{demand-3}
 use Rattle.printer.proofs.ByHand.{checked-by-hand}
+use Rattle.printer.proofs.Worked.{inputs-worked, states-worked}
+use Rattle.printer.proofs.PaperCodes.{paper-codes, arguments-taken}
 
 -- 1. Bounds
 
@@ -180,3 +186,21 @@ demand3 before c l h = demand-3 before c l h
 
 pub by-hand : CheckedByHand
 by-hand = checked-by-hand
+
+-- 8. The rules by the papers' own numbers, written once more
+
+-- what each of the 256 bytes is between commands, after ESC, ESC i, ESC i a and ESC *, where 80h to 9Fh print and where they do not
+pub codes : (upper : Bool) → PaperCodes upper
+codes upper = paper-codes upper
+
+-- which of the 256 arguments each escape takes, that takes one
+pub arguments : ArgumentsTaken
+arguments = arguments-taken
+
+-- short inputs, from a start, with their records and answers, and parts of the state left
+pub worked-inputs : InputsWorked workedInputs
+worked-inputs = inputs-worked
+
+-- states just inside and just outside of each bound
+pub worked-states : StatesWorked workedStates
+worked-states = states-worked

@@ -1,19 +1,19 @@
 -- Demand 3 in its terms: a list of calls with what came back, and the one claim about it.
-use Prim.Native.Nat.{ℕ, _+_, _≤_, _<_}
+use Prim.Native.Nat.{ℕ, zero, suc, _+_, _*_, _≤_, _<_}
 use mathlib.Core.Path.{_≡_}
 use mathlib.Core.List.{List, [], _∷_, _++_, map}
-use lib.ListN.{length}
+use lib.ListN.{length, getD}
 use Rattle.printer.specs.Tools.{Each, Bytes}
 use Rattle.printer.specs.Decoding.{decodedAll}
 use Rattle.printer.specs.Steps.{stateAfter, eventsOver}
 use Rattle.printer.specs.Calls.{numberOf, plainStart, startOf, readingOf, outputOf, StartCall, ReadCall, bytesOf, writtenOf}
 use Rattle.printer.specs.Promises.{StartPromise, ReadingPromise}
-use Rattle.printer.specs.InForce.{advanceIn}
+use Rattle.printer.specs.InForce.{advanceIn, columnIn}
 use Rattle.printer.specs.Performing.{Event, done, passed, inside, automatic, Writing, silent, letter, imageByte, feed, clear}
 use Rattle.printer.specs.Reckoning.{Axis, Reckoning, changeOf, reckon, reckonNext, Occurrence, start, event, begun, Printed, printed}
 use Rattle.printer.specs.Spelling.{ClassifiedEvent}
 use Rattle.printer.specs.Shown.{Shown, shown, written}
-use Rattle.printer.specs.Types.{Printer}
+use Rattle.printer.specs.Types.{Command, Control, Printer}
 
 -- Calls with what came back
 
@@ -102,6 +102,50 @@ ForWantOfRoom r (automatic n) =
     (r .force .measures .left + r .across .back < r .across .set + r .across .forth)
     × Overflows r (advanceIn (r .force))
 
+-- by the reckoning's own numbers: an LF turns the page just if place and line amount reach the edge, and a tab goes to the right
+abbrev pub LeadsOn : Reckoning → Control → (number : ℕ) → Type 0
+LeadsOn r Control.CarriageReturn n = Unit
+LeadsOn r Control.LineFeed zero =
+    r .down .set + r .down .forth + r .force .measures .line + r .force .measures .skip < r .force .measures .page + r .down .back
+LeadsOn r Control.LineFeed (suc n) =
+    r .force .measures .page + r .down .back ≤ r .down .set + r .down .forth + r .force .measures .line + r .force .measures .skip
+LeadsOn r Control.FormFeed n = Unit
+LeadsOn r Control.HorizontalTab zero = Unit
+LeadsOn r Control.HorizontalTab (suc n) =
+    r .across .set + r .across .forth
+    < r .force .measures .left + getD (r .force .lists .columns) n 0 * columnIn (r .force) + r .across .back
+LeadsOn r Control.VerticalTab n = Unit
+LeadsOn r Control.Backspace n = Unit
+LeadsOn r Control.ShiftOut n = Unit
+LeadsOn r Control.ShiftIn n = Unit
+LeadsOn r Control.Dc2 n = Unit
+LeadsOn r Control.Dc4 n = Unit
+
+-- of the other commands nothing is asked
+abbrev pub LeadsAs : Reckoning → Command → (number : ℕ) → Type 0
+LeadsAs r (Command.Letter b) n = Unit
+LeadsAs r (Command.Control c b) n = LeadsOn r c n
+LeadsAs r (Command.Refused e) n = Unit
+LeadsAs r (Command.Silent k) n = Unit
+LeadsAs r Command.Reset n = Unit
+LeadsAs r (Command.Mode c) n = Unit
+LeadsAs r (Command.Parameter c a) n = Unit
+LeadsAs r (Command.Look k) n = Unit
+LeadsAs r (Command.Skip a) n = Unit
+LeadsAs r (Command.Feed a) n = Unit
+LeadsAs r (Command.Margin side a) n = Unit
+LeadsAs r (Command.Page g) n = Unit
+LeadsAs r (Command.Move m a b) n = Unit
+LeadsAs r (Command.OpenImage o a b) n = Unit
+LeadsAs r (Command.ImageByte m k b) n = Unit
+LeadsAs r (Command.List k part) n = Unit
+
+abbrev pub Leads : Reckoning → Event → Type 0
+Leads r (done c n) = LeadsAs r c n
+Leads r (passed c reason) = Unit
+Leads r (inside c n) = LeadsOn r c n
+Leads r (automatic n) = LeadsOn r Control.LineFeed n
+
 -- a reckoned place is no less than 0: the sum of its moves back is not more than what was set and the moves forth
 abbrev pub NotBelowZero : Axis → Type 0
 NotBelowZero a = a .back ≤ a .set + a .forth
@@ -111,6 +155,7 @@ pub record Happens (r : Reckoning) (e : Event) : Type 0 where
   pub across : NotBelowZero (reckon r e .across)
   pub down : NotBelowZero (reckon r e .down)
   pub room : ForWantOfRoom r e
+  pub leads : Leads r e
   pub classified : ClassifiedEvent (r .force .upper) e
 
 abbrev pub Reckoned : Reckoning → Occurrence → Type 0

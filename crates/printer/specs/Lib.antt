@@ -28,6 +28,11 @@ pub mod Accepted
 -- 'Checked by hand'; demand 2: cutting; the spelling law; records read back
 pub mod Decoding
 pub mod Cases
+-- worked cases, and the bytes of commands by the paper's numbers: what ties the rules to the papers
+pub mod Worked
+pub mod WorkedInputs
+pub mod WorkedStates
+pub mod PaperCodes
 pub mod Cutting
 pub mod Spelling
 -- ESC i
