@@ -28,7 +28,8 @@ pub record AllShown (p : Printer) (input : List ℕ) (back : Progress) : Type 0 
   pub bytes : Bytes input
   pub all : accepted p ≡ true → back .failed ≡ false → back .read ≡ length input
 
--- so many bytes from outside lead from a state to another
+-- so many bytes from outside lead from a state to another. Which they are, and how many come, is free: no contract of the kit says what a
+-- descriptor has.
 pub record FromInput (p after : Printer) (read : ℕ) : Type 0 where
   pub input : List ℕ
   pub bytes : Bytes input

@@ -94,8 +94,9 @@ fn take_piece(printer: Printer) -> Progress
     progress
 }
 
-// Takes pieces until none comes or writing fails. That it goes on until then is left to these lines; the bytes are counted, since nothing
-// says that the input ends.
+// Takes pieces until none comes or writing fails. What is promised is the state, by the steps over the bytes that came. That these are all of
+// standard input is left to these lines, as no contract of the kit says what a descriptor has; the bytes are counted, since nothing says that the
+// input ends.
 pub fn run(printer: Printer) -> Progress
     ensures { λ r. ⌜ FromInput printer (r .printer) (r .read) ⌝ }
 {
