@@ -8,6 +8,7 @@ const HEADER: &str = include_str!("../../include/escp.h");
 const FUNCTIONS: &str = include_str!("../src/interface.rs");
 const STRUCTS: &str = include_str!("../src/state.rs");
 const LAYOUT: &str = include_str!("../../crates/registers/src/lib.rt");
+const NUMBERS: &str = include_str!("../../crates/registers/specs/Register.antt");
 const EXPORTS: &str = include_str!("../../crates/ierbulosc/src/lib.rt");
 
 /// A field or a parameter: its name and its type, as C writes it.
@@ -139,18 +140,51 @@ fn numbers(kind: &str, name: &str) -> Vec<Named> {
     fields.iter().flat_map(within).collect()
 }
 
+/// The number of a sum of numerals, of names that have theirs, and of the room
+/// for stops.
+fn sum(text: &str, known: &[(String, usize)]) -> usize {
+    let term = |word: &str| match known.iter().find(|(name, _)| name == word) {
+        Some((_, number)) => *number,
+        None if word == "TabStops::ROOM" || word == "stopRoom" => c_constant("TAB_STOPS"),
+        None => word.parse().unwrap_or_else(|_| panic!("{word} in {text}")),
+    };
+    text.split(" + ").map(term).sum()
+}
+
+/// Names with the numbers that these lines give them, each by those before it.
+fn numbered<'a>(lines: impl Iterator<Item = (&'a str, &'a str)>) -> Vec<(String, usize)> {
+    let mut all = Vec::new();
+    for (name, text) in lines {
+        let number = sum(text, &all);
+        all.push((name.to_string(), number));
+    }
+    all
+}
+
 /// The constants of the layout in Rattle, with the numbers that they have.
 fn layout() -> Vec<(String, usize)> {
     let constants = LAYOUT.lines().filter_map(|l| l.strip_prefix("pub const "));
-    constants
-        .map(|line| {
-            let (name, number) = line.split_once(": usize = ").unwrap();
-            (
-                name.to_string(),
-                number.trim_end_matches(';').parse().unwrap(),
-            )
-        })
-        .collect()
+    let line = |line: &'static str| line.strip_suffix(';')?.split_once(": usize = ");
+    numbered(constants.map(|text| line(text).unwrap()))
+}
+
+/// The numbers of the registers in the definitions, by the names in the code:
+/// `lineCountAt` is LINE_COUNT, and `registerCount` COUNT.
+fn defined() -> Vec<(String, usize)> {
+    let lines = NUMBERS.lines().filter(|line| !line.starts_with("--"));
+    let mut all = numbered(lines.filter_map(|line| line.split_once(" = ")));
+    for (name, _) in &mut all {
+        let own = match name.as_str() {
+            "registerCount" => "count",
+            name => name.strip_suffix("At").unwrap(),
+        };
+        let word = |c: char| match c.is_uppercase() {
+            true => format!("_{c}"),
+            false => c.to_uppercase().to_string(),
+        };
+        *name = own.chars().map(word).collect();
+    }
+    all
 }
 
 /// The name in Rattle of a register of the state: `columns.count` is
@@ -177,6 +211,14 @@ fn registers_are_those_of_the_layout() {
     named.extend(places.filter_map(|(at, (name, _))| Some((register(name)?, at))));
     assert_eq!(layout(), named);
     assert_eq!(c_constant("REGISTERS"), state.len());
+}
+
+#[test]
+fn definitions_number_the_registers_as_the_code_does() {
+    let (mut code, mut definitions) = (layout(), defined());
+    code.sort();
+    definitions.sort();
+    assert_eq!(definitions, code);
 }
 
 /// The parameters between a function's brackets, and what it gives.

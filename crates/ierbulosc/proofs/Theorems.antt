@@ -23,7 +23,7 @@ use Rattle.printer.proofs.Choices.{bytes-take}
 use Rattle.printer.proofs.Cuts.{call-steps}
 use Rattle.printer.proofs.KeepingSteps.{steps-ours}
 use Rattle.printer.proofs.Theorems.{demand3, stopped-anywhere, resumed, pieces, reads-to-end}
-use Rattle.registers.specs.Layout.{registerCount}
+use Rattle.registers.specs.Register.{registerCount}
 use Rattle.registers.specs.State.{registersOf, printerIn, acceptedIn}
 use Rattle.registers.proofs.State.{registers-read, registers-accepted, plain, accepted-registers, accepted-printer, printer-typed}
 use Rattle.interpreter.specs.Calls.{runIn, leftIn}

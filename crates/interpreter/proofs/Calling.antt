@@ -12,7 +12,7 @@ use Rattle.printer.specs.declared.commands.Waiting.{Waiting}
 use Rattle.printer.specs.declared.settings.Setup.{Setup}
 use Rattle.printer.specs.declared.settings.StartSettings.{StartSettings}
 use Rattle.registers.specs.declared.pending.Pending.{Pending}
-use Rattle.registers.specs.Layout.{registerCount}
+use Rattle.registers.specs.Register.{registerCount}
 use Rattle.registers.specs.State.{pendingOf, waitingOf, pendingIn, registersOf, printerIn, acceptedIn}
 use Rattle.registers.specs.Stores.{pended}
 use Rattle.registers.proofs.State.{pended-words, printer-typed, accepted-printer, accepted-held}

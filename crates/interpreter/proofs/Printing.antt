@@ -13,6 +13,7 @@ use Rattle.printer.specs.declared.commands.Control.{Control}
 use Rattle.printer.specs.declared.settings.Settings.{Settings}
 use Rattle.printer.specs.declared.state.Printer.{Printer}
 use Rattle.registers.specs.declared.pending.Pending.{Pending}
+use Rattle.registers.specs.Register.{fontAt, countryAt, styleAt}
 use Rattle.registers.specs.Groups.{settingsIn}
 use Rattle.registers.specs.Held.{Held}
 use Rattle.registers.proofs.Reading.{settings-held, style-held}
@@ -44,14 +45,14 @@ style-small s =
     )
 
 module _ {p : Printer} {v : Pending} {m : List ℕ} (h : Held p v m) where
-  pub style-back : getD m 37 0 % 65536 ≡ styleOf (p .settings)
+  pub style-back : getD m styleAt 0 % 65536 ≡ styleOf (p .settings)
   style-back = ap (λ (n : ℕ). n % 65536) (style-held h) ∙ omega (arith, style-small (p .settings))
 
-  pub font-held : getD m 29 0 % 256 ≡ p .settings .face .font
+  pub font-held : getD m fontAt 0 % 256 ≡ p .settings .face .font
   unfolding settingsIn
   font-held = ap (λ (s : Settings). s .face .font) (settings-held h)
 
-  pub country-held : getD m 30 0 % 256 ≡ p .settings .face .country
+  pub country-held : getD m countryAt 0 % 256 ≡ p .settings .face .country
   unfolding settingsIn
   country-held = ap (λ (s : Settings). s .face .country) (settings-held h)
 

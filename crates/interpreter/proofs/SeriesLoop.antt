@@ -16,6 +16,7 @@ use Rattle.printer.specs.declared.records.Record.{Record}
 use Rattle.printer.specs.Units.{rounded}
 use Rattle.printer.proofs.Choices.{each-append}
 use Rattle.printer.proofs.CodeLaws.{product}
+use Rattle.registers.specs.Register.{acrossAt}
 use Rattle.framing.specs.Letters.{printsFrom}
 use Rattle.interpreter.specs.Output.{Written}
 use Rattle.interpreter.specs.Series.{ofPart, likeAt, placedAll, AllPrint, Reached, OnLine, spotAfter, blankOf}
@@ -249,7 +250,7 @@ fewer-fit f h =
 
 -- Where none is placed, nothing changes
 
-pub not-moved : (m : List ℕ) (step : ℕ) {m′ : List ℕ} {n : ℕ} → n ≡ 0 → m′ ≡ set m 6 (getD m 6 0 + n * step) → m′ ≡ m
+pub not-moved : (m : List ℕ) (step : ℕ) {m′ : List ℕ} {n : ℕ} → n ≡ 0 → m′ ≡ set m acrossAt (getD m acrossAt 0 + n * step) → m′ ≡ m
 not-moved m step e k = rw e at k ∙ rw (zero-mul step, add-zero, set-getD)
 
 pub not-written : {xs ys : List ℕ} {l : List Record} {n : ℕ} → n ≡ 0 → Written xs 0 l (recordSize * n) ys → ys ≡ xs

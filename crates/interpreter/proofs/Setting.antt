@@ -15,6 +15,7 @@ use Rattle.printer.specs.declared.settings.Settings.{Settings}
 use Rattle.printer.specs.declared.state.Printer.{Printer}
 use Rattle.registers.specs.declared.derived.Shown.{Shown}
 use Rattle.registers.specs.declared.pending.Pending.{Pending}
+use Rattle.registers.specs.Register.{pitchAt, wideOnceAt, styleAt}
 use Rattle.registers.specs.Layout.{Derived, flag, pitchNumber, derivedOf, laid, words}
 use Rattle.registers.specs.Groups.{isSet}
 use Rattle.registers.specs.Keeping.{shownStored, measured}
@@ -31,27 +32,27 @@ module _ {p : Printer} {v : Pending} {m : List ℕ} (h : Held p v m) (s : Settin
 
   -- stores that keep the style bits as what the settings show
   module _ (f : List ℕ → List ℕ) (kept : Styled (f m)) where
-    style-kept : (advance column : ℕ) → f (words v p) ≡ laidWith (getD (f (words v p)) 37 0) advance column
+    style-kept : (advance column : ℕ) → f (words v p) ≡ laidWith (getD (f (words v p)) styleAt 0) advance column
         → f m ≡ laidWith (styleOf s) advance column
     style-kept advance column alike =
         let e = ap f (h .same) ∙ alike in
         e ∙ ap (λ (style : ℕ). laidWith style advance column) (style-known v _ changed (subst Styled e kept))
 
-    pub look-kept : f (words v p) ≡ laidWith (getD (f (words v p)) 37 0) (advanceOf s) (columnOf s) → f m ≡ words v changed
+    pub look-kept : f (words v p) ≡ laidWith (getD (f (words v p)) styleAt 0) (advanceOf s) (columnOf s) → f m ≡ words v changed
     look-kept = style-kept (advanceOf s) (columnOf s)
 
-    pub widths-kept : Small s → f (words v p) ≡ laidWith (getD (f (words v p)) 37 0) (advanceOf (p .settings)) (columnOf (p .settings))
+    pub widths-kept : Small s → f (words v p) ≡ laidWith (getD (f (words v p)) styleAt 0) (advanceOf (p .settings)) (columnOf (p .settings))
         → measured (f m) ≡ words v changed
     widths-kept small alike = ap measured (style-kept _ _ alike) ∙ measured-laid v _ changed small
 
   -- one setting that shows
   module _ (k : Shown) {n number : ℕ} {after : List ℕ} (e : number ≡ n) (stored : after ≡ shownStored m k number) where
-    pub look-stored : shownStored (words v p) k n ≡ laidWith (getD (shownStored (words v p) k n) 37 0) (advanceOf s) (columnOf s)
+    pub look-stored : shownStored (words v p) k n ≡ laidWith (getD (shownStored (words v p) k n) styleAt 0) (advanceOf s) (columnOf s)
         → after ≡ words v changed
     look-stored alike = stored ∙ rw e (look-kept (λ (l : List ℕ). shownStored l k n) (shown-kept (styled-held h) k n) alike)
 
     pub shown-measured : Small s
-        → shownStored (words v p) k n ≡ laidWith (getD (shownStored (words v p) k n) 37 0) (advanceOf (p .settings)) (columnOf (p .settings))
+        → shownStored (words v p) k n ≡ laidWith (getD (shownStored (words v p) k n) styleAt 0) (advanceOf (p .settings)) (columnOf (p .settings))
         → measured after ≡ words v changed
     shown-measured small alike =
         ap measured stored ∙ rw e (widths-kept (λ (l : List ℕ). shownStored l k n) (shown-kept (styled-held h) k n) small alike)
@@ -63,17 +64,17 @@ module _ {p : Printer} {v : Pending} {m : List ℕ} (h : Held p v m) (s : Settin
       stored ∙ rw e (ap (λ (l : List ℕ). measured (set l register n)) (h .same) ∙ ap measured alike ∙ measured-laid v _ changed small)
 
 -- SO that is not in force is ended
-pub wide-once-off : {p : Printer} {v : Pending} {m : List ℕ} → Held p v m → getD m 20 0 ≡ 0
+pub wide-once-off : {p : Printer} {v : Pending} {m : List ℕ} → Held p v m → getD m wideOnceAt 0 ≡ 0
     → m ≡ words v (withParts p (withWideOnce (p .settings) false) (p .place) (p .stops))
 unfolding laid styleOf
 wide-once-off {p} {v} {m} h e =
-    let stands : getD m 20 0 ≡ flag (p .settings .width .wideonce) = rw (h .same) in
+    let stands : getD m wideOnceAt 0 ≡ flag (p .settings .width .wideonce) = rw (h .same) in
     let off : p .settings .width .wideonce ≡ false = sym (set-flag _) ∙ ap isSet (sym stands ∙ e) in
     h .same ∙ ap (λ (on : Bool). words v (withParts p (withWideOnce (p .settings) on) (p .place) (p .stops))) off
 
 -- SI by the pitch's number
 pub reduced-by-pitch : {p : Printer} {v : Pending} {m : List ℕ} → Held p v m
-    → not (eqb (getD m 17 0) 15) ≡ holds (reducedNeeds (p .settings .width))
+    → not (eqb (getD m pitchAt 0) 15) ≡ holds (reducedNeeds (p .settings .width))
 unfolding laid
 reduced-by-pitch {p} h = rw (h .same) (by-number (p .settings .width .pitch))
   where

@@ -18,6 +18,7 @@ use Rattle.printer.specs.declared.commands.Tabs.{Tabs}
 use Rattle.printer.specs.declared.commands.Waiting.{Waiting}
 use Rattle.printer.specs.declared.state.Printer.{Printer}
 use Rattle.registers.specs.declared.pending.Pending.{Pending}
+use Rattle.registers.specs.Register.{upperPrintsAt}
 use Rattle.registers.specs.Groups.{isSet}
 use Rattle.registers.specs.Layout.{laid}
 use Rattle.registers.proofs.Reading.{upper-held}
@@ -27,7 +28,7 @@ use Rattle.interpreter.proofs.Writes.{none}
 
 module _ {p : Printer} {v : Pending} {w : Waiting} {m : List ℕ} (h : Current p v w m) where
   -- the frame by the registers is that of the rules
-  frame-here : (b : ℕ) {f : Frame} → f ≡ frame (isSet (getD m 36 0)) w b → frameAt p b ≡ f
+  frame-here : (b : ℕ) {f : Frame} → f ≡ frame (isSet (getD m upperPrintsAt 0)) w b → frameAt p b ≡ f
   frame-here b {f} e = sym (rw (upper-held (h .held), h .waits) at e)
 
   pub waited : (b : ℕ) {next : Waiting} {xs : List ℕ} {at : ℕ} → frameAt p b ≡ Frame.Waits next
@@ -43,14 +44,14 @@ module _ {p : Printer} {v : Pending} {w : Waiting} {m : List ℕ} (h : Current p
 
   -- between commands
   module _ (b : ℕ) (e : w ≡ Waiting.Nothing) where
-    between : frameAt p b ≡ frame (isSet (getD m 36 0)) Waiting.Nothing b
-    between = frame-here b (ap (λ (x : Waiting). frame (isSet (getD m 36 0)) x b) (sym e))
+    between : frameAt p b ≡ frame (isSet (getD m upperPrintsAt 0)) Waiting.Nothing b
+    between = frame-here b (ap (λ (x : Waiting). frame (isSet (getD m upperPrintsAt 0)) x b) (sym e))
 
-    pub letter-frame : isLetter (isSet (getD m 36 0)) b ≡ true → frameAt p b ≡ Frame.Whole (Command.Letter b) Waiting.Nothing
+    pub letter-frame : isLetter (isSet (getD m upperPrintsAt 0)) b ≡ true → frameAt p b ≡ Frame.Whole (Command.Letter b) Waiting.Nothing
     unfolding frame
     letter-frame t = between ∙ rw t
 
-    pub control-frame : {f : First} → isLetter (isSet (getD m 36 0)) b ≡ false → f ≡ firstOf (readAs (isSet (getD m 36 0)) b)
+    pub control-frame : {f : First} → isLetter (isSet (getD m upperPrintsAt 0)) b ≡ false → f ≡ firstOf (readAs (isSet (getD m upperPrintsAt 0)) b)
         → frameAt p b ≡ firstFrame f b
     unfolding frame
     control-frame t g = between ∙ rw (t, g)

@@ -23,6 +23,7 @@ use Rattle.printer.specs.declared.units.Resolution.{Resolution}
 use Rattle.printer.proofs.Choices.{pick-elim}
 use Rattle.printer.proofs.Modes.{bytes-within}
 use Rattle.registers.specs.declared.pending.Pending.{Pending}
+use Rattle.registers.specs.Register.{acrossAt, rightAt, dotsAcrossAt, upperPrintsAt, advanceAt}
 use Rattle.registers.specs.Groups.{isSet}
 use Rattle.registers.specs.Layout.{laid, words}
 use Rattle.registers.proofs.Reading.{advance-held, upper-held}
@@ -87,21 +88,21 @@ dots-few Resolution.Dots300 = omega arith
 dots-few Resolution.Dots203 = omega arith
 
 module _ {p : Printer} {v : Pending} {w : Waiting} {m : List ℕ} (h : Current p v w m) where
-  dots-held : getD m 13 0 ≡ perInchAcross (p .settings .setup .resolution)
+  dots-held : getD m dotsAcrossAt 0 ≡ perInchAcross (p .settings .setup .resolution)
   unfolding laid
   dots-held = rw (h .held .same)
 
   -- what makes the code safe
-  pub in-margins : getD m 6 0 ≤ getD m 9 0
+  pub in-margins : getD m acrossAt 0 ≤ getD m rightAt 0
   in-margins = rw (across-held (h .held), right-held (h .held)) (h .accepted .place .1 .0)
 
-  pub right-most : (getD m 9 0 ≤ 28800) × (getD m 13 0 ≤ 300)
+  pub right-most : (getD m rightAt 0 ≤ 28800) × (getD m dotsAcrossAt 0 ≤ 300)
   right-most =
       let s = h .accepted .settings in
       let e = right-held (h .held) in
       (omega arith, rw dots-held (dots-few (p .settings .setup .resolution)))
 
-  pub advances : 0 < getD m 38 0
+  pub advances : 0 < getD m advanceAt 0
   advances = rw (advance-held (h .held)) (advance-positive (p .settings .width))
 
   -- image data is of some columns, and from a byte that a column has
@@ -114,12 +115,12 @@ module _ {p : Printer} {v : Pending} {w : Waiting} {m : List ℕ} (h : Current p
 
   module _ {input out after : List ℕ} {n : ℕ} (left : ℕ) {r : Record} where
     pub letters-taken : {columns done part : ℕ} → w ≡ Waiting.Nothing
-        → Fits n 1 1 columns (length input) (length out) (getD m 6 0) (getD m 38 0) (getD m 9 0)
-        → Letters (isSet (getD m 36 0)) (take n input) → Reached done part n 1 1
+        → Fits n 1 1 columns (length input) (length out) (getD m acrossAt 0) (getD m advanceAt 0) (getD m rightAt 0)
+        → Letters (isSet (getD m upperPrintsAt 0)) (take n input) → Reached done part n 1 1
         → r ≡ letterRecord (p .settings) (p .place) 0 (advanceOf (p .settings))
-        → Written out 0 (placedAll r (getD m 13 0) (getD m 6 0) (getD m 38 0) 1 1 (take n input)) (recordSize * n) after
+        → Written out 0 (placedAll r (getD m dotsAcrossAt 0) (getD m acrossAt 0) (getD m advanceAt 0) 1 1 (take n input)) (recordSize * n) after
         → TurnPromise p v input out (record { waiting = Waiting.Nothing; read = n; written = recordSize * n; left = left })
-        (set m 6 (getD m 6 0 + done * getD m 38 0)) after
+        (set m acrossAt (getD m acrossAt 0 + done * getD m advanceAt 0)) after
     letters-taken e f l s k g =
         let c : length (take n input) ≡ n = length-take-le n input (f .some-input) in
         let d = one-each s refl refl .0 in
@@ -131,11 +132,11 @@ module _ {p : Printer} {v : Pending} {w : Waiting} {m : List ℕ} (h : Current p
         (rw (k, dots-held, across-held (h .held), advance-held (h .held), placed-like) at g))
 
     pub columns-taken : {mode : ImageMode} {k columns done part : ℕ} → w ≡ Waiting.ImageData mode k columns
-        → Fits n (imageBytes mode) k columns (length input) (length out) (getD m 6 0) (imageStep mode) (getD m 9 0)
+        → Fits n (imageBytes mode) k columns (length input) (length out) (getD m acrossAt 0) (imageStep mode) (getD m rightAt 0)
         → Reached done part n (imageBytes mode) k → r ≡ imageRecord (p .settings) (p .place) 0 (columnPart mode 1) (imageStep mode)
-        → Written out 0 (placedAll r (getD m 13 0) (getD m 6 0) (imageStep mode) (imageBytes mode) k (take n input)) (recordSize * n) after
+        → Written out 0 (placedAll r (getD m dotsAcrossAt 0) (getD m acrossAt 0) (imageStep mode) (imageBytes mode) k (take n input)) (recordSize * n) after
         → TurnPromise p v input out (record { waiting = columnsWait mode part (columns - done); read = n; written = recordSize * n; left = left })
-        (set m 6 (getD m 6 0 + done * imageStep mode)) after
+        (set m acrossAt (getD m acrossAt 0 + done * imageStep mode)) after
     unfolding laid
     columns-taken {mode} {k} {columns} {done} {part} e f s i g =
         let c : length (take n input) ≡ n = length-take-le n input (f .some-input) in

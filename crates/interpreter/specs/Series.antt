@@ -12,6 +12,7 @@ use Rattle.printer.specs.Records.{markLow, markHigh, recordSize}
 use Rattle.printer.specs.declared.commands.ImageMode.{ImageMode}
 use Rattle.printer.specs.declared.commands.Waiting.{Waiting}
 use Rattle.printer.specs.declared.records.Record.{Record}
+use Rattle.registers.specs.Register.{acrossAt, rightAt, dotsAcrossAt}
 use Rattle.framing.specs.Letters.{printsFrom}
 use Rattle.interpreter.specs.declared.series.Blank.{Blank}
 use Rattle.interpreter.specs.declared.series.Placed.{Placed}
@@ -94,8 +95,8 @@ pub record Placeable (m : List ℕ) (v : Record) (step bytes k most input allowa
   pub moves : 0 < step
   pub first : (1 ≤ k) × (k ≤ bytes)
   pub fonts : v .font + bytes ≤ 256
-  pub line : OnLine most bytes k (getD m 6 0) step (getD m 9 0)
-  pub paper : (getD m 9 0 ≤ 28800) × (getD m 13 0 ≤ 300)
+  pub line : OnLine most bytes k (getD m acrossAt 0) step (getD m rightAt 0)
+  pub paper : (getD m rightAt 0 ≤ 28800) × (getD m dotsAcrossAt 0 ≤ 300)
   pub read : (most ≤ input) × (most ≤ allowance)
   pub written : recordSize * most ≤ room
 
@@ -106,8 +107,8 @@ pub record Placing
   pub few : r .count ≤ most
   pub printed : AllPrint from (take (r .count) input)
   pub reached : Reached (r .done) (r .part) (r .count) bytes k
-  pub moved : after ≡ set m 6 (getD m 6 0 + r .done * step)
-  pub records : Written out 0 (placedAll v (getD m 13 0) (getD m 6 0) step bytes k (take (r .count) input)) (recordSize * r .count) wrote
+  pub moved : after ≡ set m acrossAt (getD m acrossAt 0 + r .done * step)
+  pub records : Written out 0 (placedAll v (getD m dotsAcrossAt 0) (getD m acrossAt 0) step bytes k (take (r .count) input)) (recordSize * r .count) wrote
   pub left : r .left + r .count ≡ allowance
 
 -- Bytes

@@ -6,13 +6,14 @@ use lib.ListN.{getD, set}
 use Rattle.printer.specs.Tools.{pick, bit}
 use Rattle.printer.specs.declared.settings.Pitch.{Pitch}
 use Rattle.registers.specs.declared.derived.Shown.{Shown}
+use Rattle.registers.specs.Register.{pitchAt, wideOnceAt}
 use Rattle.registers.specs.Layout.{flag, pitchNumber}
 use Rattle.registers.specs.Groups.{isSet}
 use Rattle.registers.specs.Keeping.{shownStored, doubleStored}
 
 -- ESC W: 0 ends SO too
 abbrev pub doubledIn : List ℕ → Bool → List ℕ
-doubledIn m on = doubleStored m (flag on) (flag (pick on (isSet (getD m 20 0)) false))
+doubledIn m on = doubleStored m (flag on) (flag (pick on (isSet (getD m wideOnceAt 0)) false))
 
 -- ESC !: a bit as a flag
 abbrev pub bitIn : List ℕ → Shown → (argument k : ℕ) → List ℕ
@@ -21,7 +22,7 @@ bitIn m s n k = shownStored m s (flag (bit n k))
 abbrev pub masterWidthIn : List ℕ → ℕ → List ℕ
 masterWidthIn m n =
     doubledIn
-    (bitIn (bitIn (set m 17 (pitchNumber (pick (bit n 0x01) Pitch.Cpi12 Pitch.Cpi10))) Shown.Proportional n 0x02) Shown.Reduced n 0x04)
+    (bitIn (bitIn (set m pitchAt (pitchNumber (pick (bit n 0x01) Pitch.Cpi12 Pitch.Cpi10))) Shown.Proportional n 0x02) Shown.Reduced n 0x04)
     (bit n 0x20)
 
 abbrev pub masterEmphasisIn : List ℕ → ℕ → List ℕ

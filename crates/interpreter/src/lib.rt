@@ -17,6 +17,7 @@ mod steps;
 mod tabs;
 mod turn;
 
+use accepting::bounds::examine;
 use printer::answers::Answer;
 use printer::answers::Report;
 use printer::commands::Waiting;
@@ -27,7 +28,6 @@ use printer::starting::setup_of;
 use printer::starting::usable;
 use reading::run;
 use registers::COUNT;
-use registers::bounds::examine;
 use registers::pending::pending_of;
 use registers::pending::store_pending;
 use registers::power_on::power_on;

@@ -33,7 +33,7 @@ ghost use Rattle.printer.specs.Widths.{columnWidth};
 ghost use Rattle.printer.specs.declared.commands.Command.{Command};
 ghost use Rattle.printer.specs.declared.commands.ListPart.{ListPart};
 ghost use Rattle.printer.specs.declared.state.Printer.{Printer};
-ghost use Rattle.registers.specs.Layout.{registerCount};
+ghost use Rattle.registers.specs.Register.{gatheredCountAt, gatheredStopsAt, registerCount};
 ghost use Rattle.interpreter.specs.Doing.{Leaves, Does};
 ghost use Rattle.interpreter.specs.Searching.{columnAt};
 
@@ -53,8 +53,8 @@ pub(crate) fn open_list(m: &mut [u32; COUNT])
 
 // The gathered list is copied over the list whose count is at `to`.
 fn copy_gathered(m: &mut [u32; COUNT], to: usize)
-    requires { ⌜ to + 33 ≤ 107 ⌝ }
-    ensures { λ _. ⌜ (length (now (m .entry)) ≡ registerCount → now (m .exit) ≡ paste (now (m .entry)) to (drop 107 (now (m .entry))) 33) ⌝ }
+    requires { ⌜ to + 33 ≤ gatheredCountAt ⌝ }
+    ensures { λ _. ⌜ (length (now (m .entry)) ≡ registerCount → now (m .exit) ≡ paste (now (m .entry)) to (drop gatheredCountAt (now (m .entry))) 33) ⌝ }
 {
     let mut i: usize = 0;
     while i < LIST {
@@ -116,7 +116,7 @@ fn stop_allowed(s: Settings, count: u32, k: Tabs, b: u8) -> bool
 // One more stop in the gathered list.
 fn add_stop(m: &mut [u32; COUNT], count: u32, stop: u32)
     requires { ⌜ count < 32 ⌝ }
-    ensures { λ _. ⌜ now (m .exit) ≡ set (set (now (m .entry)) (108 + count) stop) 107 (count + 1) ⌝ }
+    ensures { λ _. ⌜ now (m .exit) ≡ set (set (now (m .entry)) (gatheredStopsAt + count) stop) gatheredCountAt (count + 1) ⌝ }
 {
     let at = GATHERED_STOPS + count as usize;
     m[at] = stop;

@@ -17,6 +17,7 @@ ghost use Prim.Native.Nat.{_+_, _*_, _≤_, _<_, min};
 ghost use lib.ListN.{length, take, getD};
 ghost use Rattle.printer.specs.Records.{markLow, markHigh, recordSize, roomForByte, encoded};
 ghost use Rattle.printer.specs.declared.records.Record.{Record};
+ghost use Rattle.registers.specs.Register.{acrossAt, rightAt};
 ghost use Rattle.interpreter.specs.Output.{Written};
 ghost use Rattle.interpreter.specs.Series.{AllPrint, OnLine, Placeable, Placing, Reached, blankOf, digits, headAt, placedAll, spotAfter};
 ghost use Rattle.interpreter.specs.Taking.{Fits};
@@ -209,8 +210,8 @@ pub(crate) fn most_here(
 ) -> usize
     requires { ⌜ (0 < step .0) × (roomForByte ≤ room) ⌝ }
     requires { ⌜ (1 ≤ k) × (k ≤ bytes) ⌝ }
-    requires { ⌜ (getD (now m) 6 0 ≤ getD (now m) 9 0) × (getD (now m) 9 0 ≤ 28800) ⌝ }
-    ensures { λ n. ⌜ Fits n bytes k columns input room (getD (now (m .entry)) 6 0) (step .0) (getD (now (m .entry)) 9 0) ⌝ }
+    requires { ⌜ (getD (now m) acrossAt 0 ≤ getD (now m) rightAt 0) × (getD (now m) rightAt 0 ≤ 28800) ⌝ }
+    ensures { λ n. ⌜ Fits n bytes k columns input room (getD (now (m .entry)) acrossAt 0) (step .0) (getD (now (m .entry)) rightAt 0) ⌝ }
 {
     let fitting = steps_in(Units(m[RIGHT] - m[ACROSS]), step);
     let whole = least(fitting, columns);

@@ -19,7 +19,7 @@ ghost use Rattle.printer.specs.Deciding.{reducedNeeds};
 ghost use Rattle.printer.specs.declared.settings.Settings.{Settings};
 ghost use Rattle.printer.specs.declared.state.Printer.{Printer};
 ghost use Rattle.registers.specs.declared.pending.Pending.{Pending};
-ghost use Rattle.registers.specs.Layout.{registerCount};
+ghost use Rattle.registers.specs.Register.{registerCount};
 ghost use Rattle.registers.specs.Keeping.{measured};
 ghost use Rattle.registers.specs.Held.{Held};
 ghost use Rattle.interpreter.specs.Doing.{Sets};

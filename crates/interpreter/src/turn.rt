@@ -36,6 +36,7 @@ ghost use Rattle.printer.specs.Widths.{imageBytes};
 ghost use Rattle.printer.specs.declared.commands.Waiting.{Waiting};
 ghost use Rattle.printer.specs.declared.state.Printer.{Printer};
 ghost use Rattle.registers.specs.declared.pending.Pending.{Pending};
+ghost use Rattle.registers.specs.Register.{upperPrintsAt};
 ghost use Rattle.registers.specs.Groups.{isSet};
 ghost use Rattle.framing.specs.Letters.{printsFrom};
 ghost use Rattle.interpreter.specs.Series.{columnsWait};
@@ -77,7 +78,7 @@ fn take_letters(
 ) -> Turned
     requires { ⌜ Kept Waiting.Nothing (now m) ⌝ }
     requires { ⌜ (0 < length (now input)) × (roomForByte ≤ length (now out)) ⌝ }
-    requires { ⌜ (length (now input) ≤ allowance) × (from ≡ pick (isSet (getD (now m) 36 0)) 0x80 0xA0) ⌝ }
+    requires { ⌜ (length (now input) ≤ allowance) × (from ≡ pick (isSet (getD (now m) upperPrintsAt 0)) 0x80 0xA0) ⌝ }
     requires { ⌜ printsFrom from (getD (now input) 0 0) ≡ true ⌝ }
     ensures { λ r. ⌜ ((p : Printer) (v : Pending) → Current p v Waiting.Nothing (now (m .entry))
         → TurnPromise p v (now (input .entry)) (now (out .entry)) r (now (m .exit)) (now (out .exit))) ⌝ }

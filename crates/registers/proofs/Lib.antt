@@ -3,11 +3,8 @@ pub mod Reading
 pub mod Copying
 pub mod Laying
 pub mod Packing
-pub mod Again
 pub mod Starting
-pub mod Tested
 pub mod Types
-pub mod StopLists
 pub mod Waiting
 pub mod State
 pub mod Styles

@@ -9,7 +9,8 @@ use Rattle.printer.specs.Accepted.{StopsTyped}
 use Rattle.printer.specs.declared.state.Printer.{Printer}
 use Rattle.printer.specs.declared.stops.TabStops.{TabStops}
 use Rattle.registers.specs.declared.pending.Pending.{Pending}
-use Rattle.registers.specs.Layout.{registerCount, flag, derivedOf, pendingWords, placeWords, settingsWords, derivedWords, laid, words}
+use Rattle.registers.specs.Register.{linesSetAt, columnCountAt, lineCountAt, gatheredCountAt, registerCount}
+use Rattle.registers.specs.Layout.{flag, derivedOf, pendingWords, placeWords, settingsWords, derivedWords, laid, words}
 use Rattle.registers.specs.Stores.{stores, placeCells, settingsStored, over, listStored, stopsStored, staleIn}
 use Rattle.registers.proofs.Laying.{firsts, listed}
 
@@ -38,11 +39,11 @@ front v p l =
 
 module _ (p : Printer) (m : List ℕ) (long : length m ≡ registerCount) where
   abbrev front-stored : List ℕ → List ℕ
-  front-stored l = set (settingsStored (p .settings) (stores (placeCells (p .place)) l)) 40 (flag (p .stops .lineset))
+  front-stored l = set (settingsStored (p .settings) (stores (placeCells (p .place)) l)) linesSetAt (flag (p .stops .lineset))
 
-  front-words : front-stored m ≡ front (staleIn m) p (drop 41 m)
+  front-words : front-stored m ≡ front (staleIn m) p (drop columnCountAt m)
   unfolding firsts settingsStored
-  front-words = ap front-stored (listed 41 m (omega arith))
+  front-words = ap front-stored (listed columnCountAt m (omega arith))
 
   regroup : (h a b c : List ℕ) → (((h ++ a) ++ b) ++ c) ++ [] ≡ h ++ (a ++ (b ++ (c ++ [])))
   regroup h a b c = simp append-assoc
@@ -55,22 +56,22 @@ module _ (p : Printer) (m : List ℕ) (long : length m ≡ registerCount) where
       let b = p .stops .lines in
       let c = p .stops .gathered in
       let h = front (staleIn m) p [] in
-      let n : length (drop 41 m) ≡ 99 = simp length-drop (omega arith) in
-      let r : List ℕ = drop (suc (length (a .stops))) (drop 41 m) in
+      let n : length (drop columnCountAt m) ≡ 99 = simp length-drop (omega arith) in
+      let r : List ℕ = drop (suc (length (a .stops))) (drop columnCountAt m) in
       let s : List ℕ = drop (suc (length (b .stops))) r in
       let hr : length r ≡ 66 = simp length-drop (omega (arith, t .columns)) in
       let hs : length s ≡ 33 = simp length-drop (omega (arith, t .columns, t .lines)) in
-      let ha : length (h ++ both a) ≡ 74 = simp length-append (omega (arith, t .columns)) in
-      let hb : length ((h ++ both a) ++ both b) ≡ 107 = simp length-append (omega (arith, t .columns, t .lines)) in
-      let e1 : listStored 41 a (h ++ drop 41 m) ≡ (h ++ both a) ++ r = list-next h (drop 41 m) a 41 refl (omega arith) in
-      let e2 : listStored 74 b ((h ++ both a) ++ r) ≡ ((h ++ both a) ++ both b) ++ s =
-      list-next (h ++ both a) r b 74 ha (omega arith) in
-      let e3 : listStored 107 c (((h ++ both a) ++ both b) ++ s) ≡ (((h ++ both a) ++ both b) ++ both c) ++ drop (suc (length (c .stops))) s =
-      list-next ((h ++ both a) ++ both b) s c 107 hb (omega arith) in
+      let ha : length (h ++ both a) ≡ lineCountAt = simp length-append (omega (arith, t .columns)) in
+      let hb : length ((h ++ both a) ++ both b) ≡ gatheredCountAt = simp length-append (omega (arith, t .columns, t .lines)) in
+      let e1 : listStored columnCountAt a (h ++ drop columnCountAt m) ≡ (h ++ both a) ++ r = list-next h (drop columnCountAt m) a columnCountAt refl (omega arith) in
+      let e2 : listStored lineCountAt b ((h ++ both a) ++ r) ≡ ((h ++ both a) ++ both b) ++ s =
+      list-next (h ++ both a) r b lineCountAt ha (omega arith) in
+      let e3 : listStored gatheredCountAt c (((h ++ both a) ++ both b) ++ s) ≡ (((h ++ both a) ++ both b) ++ both c) ++ drop (suc (length (c .stops))) s =
+      list-next ((h ++ both a) ++ both b) s c gatheredCountAt hb (omega arith) in
       let z : drop (suc (length (c .stops))) s ≡ [] =
       drop-of-length-le s {i = suc (length (c .stops))} (omega (arith, t .gathered)) in
-      ap (λ (l : List ℕ). listStored 107 c (listStored 74 b (listStored 41 a l))) front-words
-      ∙ ap (λ (l : List ℕ). listStored 107 c (listStored 74 b l)) e1
-      ∙ ap (λ (l : List ℕ). listStored 107 c l) e2
+      ap (λ (l : List ℕ). listStored gatheredCountAt c (listStored lineCountAt b (listStored columnCountAt a l))) front-words
+      ∙ ap (λ (l : List ℕ). listStored gatheredCountAt c (listStored lineCountAt b l)) e1
+      ∙ ap (λ (l : List ℕ). listStored gatheredCountAt c l) e2
       ∙ e3
       ∙ rw z (regroup h (both a) (both b) (both c))

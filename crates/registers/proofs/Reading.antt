@@ -14,6 +14,7 @@ use Rattle.printer.specs.declared.settings.Width.{Width}
 use Rattle.printer.specs.declared.state.Place.{Place}
 use Rattle.printer.specs.declared.state.Printer.{Printer}
 use Rattle.registers.specs.declared.pending.Pending.{Pending}
+use Rattle.registers.specs.Register.{autoFeedAt, draftAt, upperPrintsAt, styleAt, advanceAt, columnWidthAt, linesSetAt}
 use Rattle.registers.specs.Layout.{laid}
 use Rattle.registers.specs.Groups.{isSet, placeIn, setupIn, marginsIn, paperIn, settingsIn}
 use Rattle.registers.specs.Held.{Held}
@@ -39,30 +40,30 @@ module _ {p : Printer} {v : Pending} {m : List ℕ} (h : Held p v m) where
   pub settings-held : settingsIn m ≡ p .settings
   settings-held = ap settingsIn (h .same) ∙ settings-back v _ p (h .small)
 
-  pub style-held : getD m 37 0 ≡ styleOf (p .settings)
+  pub style-held : getD m styleAt 0 ≡ styleOf (p .settings)
   unfolding laid
   style-held = rw (h .same)
 
-  pub advance-held : getD m 38 0 ≡ advanceOf (p .settings)
+  pub advance-held : getD m advanceAt 0 ≡ advanceOf (p .settings)
   unfolding laid
   advance-held = rw (h .same)
 
-  pub column-held : getD m 39 0 ≡ columnOf (p .settings)
+  pub column-held : getD m columnWidthAt 0 ≡ columnOf (p .settings)
   unfolding laid
   column-held = rw (h .same)
 
-  pub autofeed-held : isSet (getD m 15 0) ≡ p .settings .setup .autofeed
+  pub autofeed-held : isSet (getD m autoFeedAt 0) ≡ p .settings .setup .autofeed
   unfolding laid
   autofeed-held = rw (h .same) (set-flag _)
 
-  pub draft-held : isSet (getD m 35 0) ≡ p .settings .draft
+  pub draft-held : isSet (getD m draftAt 0) ≡ p .settings .draft
   unfolding laid
   draft-held = rw (h .same) (set-flag _)
 
-  pub upper-held : isSet (getD m 36 0) ≡ p .settings .upperprints
+  pub upper-held : isSet (getD m upperPrintsAt 0) ≡ p .settings .upperprints
   unfolding laid
   upper-held = rw (h .same) (set-flag _)
 
-  pub lineset-held : isSet (getD m 40 0) ≡ p .stops .lineset
+  pub lineset-held : isSet (getD m linesSetAt 0) ≡ p .stops .lineset
   unfolding laid
   lineset-held = rw (h .same) (set-flag _)

@@ -7,7 +7,7 @@ use native.Mathlib.Omega.{arith}
 use lib.Dec.{eqb, leb}
 use lib.ListN.{length, take, drop, getD, length-append}
 use lib.Seq.{drop-drop, drop-at, take-at, getD-drop}
-use borrow.Author.Tests.{eqb-true, leb-true}
+use borrow.Author.Tests.{eqb-true, leb-true, eq-eqb}
 use Rattle.printer.specs.Tools.{pick, Holds}
 use Rattle.printer.specs.Accepted.{Accepted, Typed, StopsTyped}
 use Rattle.printer.specs.Bounds.{accepted, waitingBounds}
@@ -21,15 +21,23 @@ use Rattle.printer.proofs.Accepting.{accepted-fact}
 use Rattle.printer.proofs.Choices.{either-elim}
 use Rattle.printer.proofs.Modes.{bytes-within}
 use Rattle.registers.specs.declared.pending.Pending.{Pending}
-use Rattle.registers.specs.Layout.{Derived, registerCount, laid, words, derivedOf}
+use Rattle.registers.specs.Register.{columnStopsAt, lineStopsAt, gatheredStopsAt, registerCount}
+use Rattle.registers.specs.Layout.{Derived, laid, words, derivedOf}
 use Rattle.registers.specs.Groups.{placeIn, settingsIn, stopsIn}
 use Rattle.registers.specs.Held.{Small, Held}
 use Rattle.registers.specs.Stores.{pended}
 use Rattle.registers.specs.State.{pendingOf, waitingOf, pendingIn, registersOf, printerIn, sameList, acceptedIn, imageTyped, Plain}
 use Rattle.registers.proofs.Laws.{set-flag, settings-back}
 use Rattle.registers.proofs.Copying.{part-long}
-use Rattle.registers.proofs.Again.{same-itself}
 use Rattle.registers.proofs.Waiting.{waiting-back, pending-narrow, waiting-typed}
+
+pub itself : (n : ℕ) → eqb n n ≡ true
+itself n = eq-eqb n n refl
+
+pub same-itself : (l : List ℕ) → sameList l l ≡ true
+unfolding sameList
+same-itself [] = refl
+same-itself (x ∷ l) = rw (itself x) (same-itself l)
 
 -- what is waited for, whatever stood there
 pub pended-words : (u v : Pending) (p : Printer) → pended u (words v p) ≡ words u p
@@ -154,9 +162,9 @@ module _ (m : List ℕ) (long : length m ≡ registerCount) where
         font = omega arith;
         stops =
             record {
-              columns = part-long 42 32 m (omega arith);
-              lines = part-long 75 32 m (omega arith);
-              gathered = part-long 108 32 m (omega arith);
+              columns = part-long columnStopsAt 32 m (omega arith);
+              lines = part-long lineStopsAt 32 m (omega arith);
+              gathered = part-long gatheredStopsAt 32 m (omega arith);
             };
         waiting = waiting-typed m;
       }

@@ -10,6 +10,7 @@ use Rattle.printer.specs.Records.{styleOf}
 use Rattle.printer.specs.declared.state.Printer.{Printer}
 use Rattle.registers.specs.declared.derived.Shown.{Shown}
 use Rattle.registers.specs.declared.pending.Pending.{Pending}
+use Rattle.registers.specs.Register.{pitchAt, wideAt, wideOnceAt, styleAt, columnCountAt}
 use Rattle.registers.specs.Layout.{Derived, flag, derivedOf, laid}
 use Rattle.registers.specs.Held.{Held}
 use Rattle.registers.specs.Keeping.{registerOf, shows, showsDouble, shownStored, doubleStored}
@@ -18,7 +19,7 @@ use Rattle.registers.proofs.State.{words-long}
 
 -- what some settings show, and double width
 abbrev shownBy : List Shown → List ℕ → ℕ
-shownBy [] m = showsDouble (getD m 19 0) (getD m 20 0)
+shownBy [] m = showsDouble (getD m wideAt 0) (getD m wideOnceAt 0)
 shownBy (k ∷ l) m = shows k (getD m (registerOf k) 0) + shownBy l m
 
 -- all of them
@@ -44,10 +45,10 @@ style-back v d p = simp (flag-shows, double-shows) (omega arith)
 
 -- the style bits in the registers are what their settings show
 abbrev Shows : List ℕ → Type 0
-Shows m = getD m 37 0 ≡ styleIn m
+Shows m = getD m styleAt 0 ≡ styleIn m
 
 pub record Styled (m : List ℕ) : Type 0 where
-  pub long : 41 ≤ length m
+  pub long : columnCountAt ≤ length m
   pub shown : Shows m
 
 pub styled-held : {p : Printer} {v : Pending} {m : List ℕ} → Held p v m → Styled m
@@ -63,8 +64,8 @@ style-known v d p h = h .shown ∙ style-back v d p
 
 -- and each store by difference keeps them so
 
-module _ (m : List ℕ) (e : Shows (firsts 41 0 m)) where
-  by-setting : (k : Shown) (n : ℕ) → Shows (shownStored (firsts 41 0 m) k n)
+module _ (m : List ℕ) (e : Shows (firsts columnCountAt 0 m)) where
+  by-setting : (k : Shown) (n : ℕ) → Shows (shownStored (firsts columnCountAt 0 m) k n)
   unfolding firsts shownStored
   by-setting Shown.Bold n = omega arith
   by-setting Shown.DoubleStrike n = omega arith
@@ -79,20 +80,20 @@ module _ (m : List ℕ) (e : Shows (firsts 41 0 m)) where
   by-setting Shown.ItalicTable n = omega arith
   by-setting Shown.Download n = omega arith
 
-  by-double : (wide once : ℕ) → Shows (doubleStored (firsts 41 0 m) wide once)
+  by-double : (wide once : ℕ) → Shows (doubleStored (firsts columnCountAt 0 m) wide once)
   unfolding firsts doubleStored
   by-double wide once = omega arith
 
   -- the pitch shows in none
-  by-pitch : (n : ℕ) → Shows (set (firsts 41 0 m) 17 n)
+  by-pitch : (n : ℕ) → Shows (set (firsts columnCountAt 0 m) pitchAt n)
   unfolding firsts
   by-pitch n = e
 
 module _ {m : List ℕ} (h : Styled m) where
   -- over the registers as the list of each, stores compute
-  stored : (f : List ℕ → List ℕ) → length (f m) ≡ length m → (Shows (firsts 41 0 m) → Shows (f (firsts 41 0 m))) → Styled (f m)
+  stored : (f : List ℕ → List ℕ) → length (f m) ≡ length m → (Shows (firsts columnCountAt 0 m) → Shows (f (firsts columnCountAt 0 m))) → Styled (f m)
   stored f l g =
-      let e = listed 41 m (h .long) in
+      let e = listed columnCountAt m (h .long) in
       record { long = omega arith; shown = subst (λ (x : List ℕ). Shows (f x)) (sym e) (g (subst Shows e (h .shown))) }
 
   pub shown-kept : (k : Shown) (n : ℕ) → Styled (shownStored m k n)
@@ -103,5 +104,5 @@ module _ {m : List ℕ} (h : Styled m) where
   unfolding doubleStored
   double-kept wide once = stored (λ (l : List ℕ). doubleStored l wide once) (simp length-set) (λ e. by-double m e wide once)
 
-  pub pitch-kept : (n : ℕ) → Styled (set m 17 n)
-  pitch-kept n = stored (λ (l : List ℕ). set l 17 n) (simp length-set) (λ e. by-pitch m e n)
+  pub pitch-kept : (n : ℕ) → Styled (set m pitchAt n)
+  pitch-kept n = stored (λ (l : List ℕ). set l pitchAt n) (simp length-set) (λ e. by-pitch m e n)

@@ -21,6 +21,7 @@ use Rattle.printer.specs.declared.state.Place.{Place}
 use Rattle.printer.specs.declared.stops.Stops.{Stops}
 use Rattle.printer.specs.declared.stops.TabStops.{TabStops}
 use Rattle.printer.specs.declared.units.Resolution.{Resolution}
+use Rattle.registers.specs.Register.{acrossAt, downAt, leftAt, rightAt, pageAt, skipAt, lineAt, dotsAcrossAt, autoFeedAt, paperWidthAt, pitchAt, spacingAt, wideAt, wideOnceAt, reducedAt, proportionalAt, boldAt, doubleStrikeAt, italicAt, underlineAt, superscriptAt, subscriptAt, fontAt, countryAt, outlineAt, doubleHeightAt, italicTableAt, downloadAt, draftAt, upperPrintsAt, linesSetAt, columnCountAt, lineCountAt, gatheredCountAt}
 
 abbrev pub isSet : ℕ → Bool
 isSet n = eqb n 1
@@ -32,50 +33,50 @@ abbrev pub pitchOf : ℕ → Pitch
 pitchOf n = pick (eqb n 10) Pitch.Cpi10 (pick (eqb n 12) Pitch.Cpi12 Pitch.Cpi15)
 
 abbrev pub placeIn : List ℕ → Place
-placeIn m = at (getD m 6 0) (getD m 7 0)
+placeIn m = at (getD m acrossAt 0) (getD m downAt 0)
 
 abbrev pub setupIn : List ℕ → Setup
-setupIn m = record { resolution = resolutionOf (getD m 13 0); autofeed = isSet (getD m 15 0); width = units (getD m 16 0) }
+setupIn m = record { resolution = resolutionOf (getD m dotsAcrossAt 0); autofeed = isSet (getD m autoFeedAt 0); width = units (getD m paperWidthAt 0) }
 
 abbrev pub widthIn : List ℕ → Width
 widthIn m =
     record {
-      pitch = pitchOf (getD m 17 0);
-      spacing = getD m 18 0 % 256;
-      wide = isSet (getD m 19 0);
-      wideonce = isSet (getD m 20 0);
-      reduced = isSet (getD m 21 0);
-      proportional = isSet (getD m 22 0);
+      pitch = pitchOf (getD m pitchAt 0);
+      spacing = getD m spacingAt 0 % 256;
+      wide = isSet (getD m wideAt 0);
+      wideonce = isSet (getD m wideOnceAt 0);
+      reduced = isSet (getD m reducedAt 0);
+      proportional = isSet (getD m proportionalAt 0);
     }
 
 abbrev pub emphasisIn : List ℕ → Emphasis
 emphasisIn m =
     record {
-      bold = isSet (getD m 23 0);
-      doublestrike = isSet (getD m 24 0);
-      italic = isSet (getD m 25 0);
-      underline = isSet (getD m 26 0);
+      bold = isSet (getD m boldAt 0);
+      doublestrike = isSet (getD m doubleStrikeAt 0);
+      italic = isSet (getD m italicAt 0);
+      underline = isSet (getD m underlineAt 0);
     }
 
 abbrev pub scriptIn : List ℕ → Script
-scriptIn m = record { superscript = isSet (getD m 27 0); subscript = isSet (getD m 28 0) }
+scriptIn m = record { superscript = isSet (getD m superscriptAt 0); subscript = isSet (getD m subscriptAt 0) }
 
 abbrev pub faceIn : List ℕ → Face
 faceIn m =
     record {
-      font = getD m 29 0 % 256;
-      country = getD m 30 0 % 256;
-      outline = getD m 31 0 % 256;
-      doubleheight = isSet (getD m 32 0);
-      italictable = isSet (getD m 33 0);
-      download = isSet (getD m 34 0);
+      font = getD m fontAt 0 % 256;
+      country = getD m countryAt 0 % 256;
+      outline = getD m outlineAt 0 % 256;
+      doubleheight = isSet (getD m doubleHeightAt 0);
+      italictable = isSet (getD m italicTableAt 0);
+      download = isSet (getD m downloadAt 0);
     }
 
 abbrev pub marginsIn : List ℕ → Margins
-marginsIn m = record { left = units (getD m 8 0); right = units (getD m 9 0) }
+marginsIn m = record { left = units (getD m leftAt 0); right = units (getD m rightAt 0) }
 
 abbrev pub paperIn : List ℕ → Paper
-paperIn m = record { page = units (getD m 10 0); skip = units (getD m 11 0); line = units (getD m 12 0) }
+paperIn m = record { page = units (getD m pageAt 0); skip = units (getD m skipAt 0); line = units (getD m lineAt 0) }
 
 unfoldable pub settingsIn : List ℕ → Settings
 settingsIn m =
@@ -87,8 +88,8 @@ settingsIn m =
       face = faceIn m;
       margins = marginsIn m;
       paper = paperIn m;
-      draft = isSet (getD m 35 0);
-      upperprints = isSet (getD m 36 0);
+      draft = isSet (getD m draftAt 0);
+      upperprints = isSet (getD m upperPrintsAt 0);
     }
 
 -- a list of stops from its count on
@@ -96,4 +97,4 @@ abbrev pub listIn : ℕ → List ℕ → TabStops
 listIn from m = record { stops = take stopRoom (drop (suc from) m); count = getD m from 0 }
 
 unfoldable pub stopsIn : List ℕ → Stops
-stopsIn m = record { columns = listIn 41 m; lines = listIn 74 m; lineset = isSet (getD m 40 0); gathered = listIn 107 m }
+stopsIn m = record { columns = listIn columnCountAt m; lines = listIn lineCountAt m; lineset = isSet (getD m linesSetAt 0); gathered = listIn gatheredCountAt m }

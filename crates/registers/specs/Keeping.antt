@@ -6,23 +6,24 @@ use lib.ListN.{getD, set}
 use Rattle.printer.specs.Widths.{advance, columnWidth}
 use Rattle.printer.specs.declared.settings.Width.{Width}
 use Rattle.registers.specs.declared.derived.Shown.{Shown}
+use Rattle.registers.specs.Register.{wideAt, wideOnceAt, reducedAt, proportionalAt, boldAt, doubleStrikeAt, italicAt, underlineAt, superscriptAt, subscriptAt, outlineAt, doubleHeightAt, italicTableAt, downloadAt, styleAt, advanceAt, columnWidthAt}
 use Rattle.registers.specs.Groups.{widthIn}
 
 -- the settings of one register that show in the style bits: the register, and the value of the lowest bit
 
 abbrev pub registerOf : Shown → ℕ
-registerOf Shown.Bold = 23
-registerOf Shown.DoubleStrike = 24
-registerOf Shown.Italic = 25
-registerOf Shown.Underline = 26
-registerOf Shown.Superscript = 27
-registerOf Shown.Subscript = 28
-registerOf Shown.DoubleHeight = 32
-registerOf Shown.Outline = 31
-registerOf Shown.Proportional = 22
-registerOf Shown.Reduced = 21
-registerOf Shown.ItalicTable = 33
-registerOf Shown.Download = 34
+registerOf Shown.Bold = boldAt
+registerOf Shown.DoubleStrike = doubleStrikeAt
+registerOf Shown.Italic = italicAt
+registerOf Shown.Underline = underlineAt
+registerOf Shown.Superscript = superscriptAt
+registerOf Shown.Subscript = subscriptAt
+registerOf Shown.DoubleHeight = doubleHeightAt
+registerOf Shown.Outline = outlineAt
+registerOf Shown.Proportional = proportionalAt
+registerOf Shown.Reduced = reducedAt
+registerOf Shown.ItalicTable = italicTableAt
+registerOf Shown.Download = downloadAt
 
 abbrev pub weightOf : Shown → ℕ
 weightOf Shown.Bold = 0x1
@@ -48,7 +49,7 @@ showsDouble wide once = bitOr wide once % 2 * 0x40
 
 -- the style bits less what a setting showed, and what it shows now
 abbrev pub restyled : List ℕ → (showed shown : ℕ) → List ℕ
-restyled m showed shown = set m 37 ((getD m 37 0 % 0x10000 + 0x10000 - showed + shown) % 0x10000)
+restyled m showed shown = set m styleAt ((getD m styleAt 0 % 0x10000 + 0x10000 - showed + shown) % 0x10000)
 
 -- such a setting stored
 unfoldable pub shownStored : List ℕ → Shown → ℕ → List ℕ
@@ -57,11 +58,11 @@ shownStored m k n = restyled (set m (registerOf k) n) (shows k (getD m (register
 -- double width
 unfoldable pub doubleStored : List ℕ → (wide once : ℕ) → List ℕ
 doubleStored m wide once =
-    restyled (set (set m 19 wide) 20 once) (showsDouble (getD m 19 0) (getD m 20 0)) (showsDouble wide once)
+    restyled (set (set m wideAt wide) wideOnceAt once) (showsDouble (getD m wideAt 0) (getD m wideOnceAt 0)) (showsDouble wide once)
 
 -- the advance and the column width of a width
 abbrev pub widthsStored : Width → List ℕ → List ℕ
-widthsStored w m = set (set m 38 (advance w)) 39 (columnWidth w)
+widthsStored w m = set (set m advanceAt (advance w)) columnWidthAt (columnWidth w)
 
 -- those of the width in the registers
 unfoldable pub measured : List ℕ → List ℕ

@@ -14,10 +14,6 @@ use Rattle.printer.specs.declared.stops.Stops.{Stops}
 use Rattle.printer.specs.declared.stops.TabStops.{TabStops}
 use Rattle.registers.specs.declared.pending.Pending.{Pending}
 
--- how many there are
-abbrev pub registerCount : ℕ
-registerCount = 140
-
 abbrev pub flag : Bool → ℕ
 flag on = pick on 1 0
 
@@ -35,15 +31,15 @@ pub record Derived : Type 0 where
 abbrev pub derivedOf : Settings → Derived
 derivedOf s = record { style = styleOf s; advance = advanceOf s; column = columnOf s }
 
--- 0 to 5
+-- from kindAt on
 abbrev pub pendingWords : Pending → List ℕ → List ℕ
 pendingWords v l = v .kind ∷ v .command ∷ v .argument ∷ v .mode ∷ v .part ∷ v .columns ∷ l
 
--- 6 and 7
+-- from acrossAt on
 abbrev pub placeWords : Place → List ℕ → List ℕ
 placeWords x l = acrossOf x ∷ downOf x ∷ l
 
--- 8 to 36
+-- from leftAt on
 abbrev pub settingsWords : Settings → List ℕ → List ℕ
 settingsWords s l =
     leftOf s ∷ rightOf s ∷ pageOf s ∷ skipOf s ∷ lineOf s ∷
@@ -57,7 +53,7 @@ settingsWords s l =
     flag (s .draft) ∷ flag (s .upperprints) ∷
     l
 
--- 37 to 39
+-- from styleAt on
 abbrev pub derivedWords : Derived → List ℕ → List ℕ
 derivedWords d l = d .style ∷ d .advance ∷ d .column ∷ l
 
@@ -65,7 +61,7 @@ derivedWords d l = d .style ∷ d .advance ∷ d .column ∷ l
 abbrev pub listWords : TabStops → List ℕ → List ℕ
 listWords t l = t .count ∷ (t .stops ++ l)
 
--- 40; and the lists from 41, 74 and 107
+-- from linesSetAt on: columns, lines, and what is gathered
 abbrev pub stopsWords : Stops → List ℕ → List ℕ
 stopsWords t l = flag (t .lineset) ∷ listWords (t .columns) (listWords (t .lines) (listWords (t .gathered) l))
 

@@ -18,6 +18,7 @@ use Rattle.printer.specs.declared.commands.Selected.{Selected}
 use Rattle.printer.specs.declared.commands.Waiting.{Waiting}
 use Rattle.printer.specs.declared.state.Printer.{Printer}
 use Rattle.registers.specs.declared.pending.Pending.{Pending}
+use Rattle.registers.specs.Register.{kindAt, commandAt, argumentAt, imageModeAt, imageByteAt, imageColumnsAt}
 use Rattle.registers.specs.Layout.{words}
 use Rattle.registers.specs.Groups.{placeIn, settingsIn, stopsIn}
 use Rattle.registers.specs.Held.{Small}
@@ -97,7 +98,7 @@ waitingOf v = lookup (kinds (begins (v .command)) v) Waiting.Nothing (v .kind)
 -- the numbers as the types of what is waited for hold them
 abbrev pub pendingIn : List ℕ → Pending
 pendingIn m =
-    pending (getD m 0 0) (getD m 1 0 % 256) (getD m 2 0 % 256) (getD m 3 0 % 256) (getD m 4 0 % 256) (getD m 5 0 % 65536)
+    pending (getD m kindAt 0) (getD m commandAt 0 % 256) (getD m argumentAt 0 % 256) (getD m imageModeAt 0 % 256) (getD m imageByteAt 0 % 256) (getD m imageColumnsAt 0 % 65536)
 
 -- the printer that registers are read as: the one way back
 unfoldable pub printerIn : List ℕ → Printer

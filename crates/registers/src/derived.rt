@@ -22,6 +22,7 @@ use measures::widths;
 use printer::settings::Width;
 ghost use mathlib.Core.Path.{_≡_};
 ghost use Prim.Native.Nat.{_≤_};
+ghost use Rattle.registers.specs.Register.{downloadAt};
 ghost use Rattle.registers.specs.Keeping.{registerOf, weightOf, shows, restyled, shownStored, doubleStored, widthsStored, measured};
 
 // A setting of one register that shows in the style bits.
@@ -41,7 +42,7 @@ pub enum Shown {
 }
 
 fn register_of(k: Shown) -> usize
-    ensures { λ r. ⌜ (r ≡ registerOf k) × (r ≤ 34) ⌝ }
+    ensures { λ r. ⌜ (r ≡ registerOf k) × (r ≤ downloadAt) ⌝ }
 {
     match k {
         Shown::Bold => BOLD,

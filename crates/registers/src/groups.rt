@@ -75,7 +75,7 @@ fn pitch_of(n: u32) -> Pitch
     Pitch::Cpi15
 }
 
-pub(crate) fn resolution_of(n: u32) -> Resolution
+pub fn resolution_of(n: u32) -> Resolution
     ensures { λ r. ⌜ r ≡ resolutionOf n ⌝ }
 {
     if n == 300 {
@@ -104,7 +104,7 @@ pub fn setup_in(m: &[u32; COUNT]) -> Setup
     }
 }
 
-pub(crate) fn width_in(m: &[u32; COUNT]) -> Width
+pub fn width_in(m: &[u32; COUNT]) -> Width
     ensures { λ r. ⌜ r ≡ widthIn (now (m .entry)) ⌝ }
 {
     let pitch = pitch_of(m[PITCH]);

@@ -1,14 +1,13 @@
 // The state as registers: numbers at fixed places in memory that is lent.
-pub mod bounds;
 pub mod derived;
 pub mod groups;
-mod lists;
 pub mod pack;
 pub mod pending;
 pub mod power_on;
-mod same;
 pub mod stores;
 pub mod unpack;
+
+use printer::stops::TabStops;
 
 // How many registers there are.
 pub const COUNT: usize = 140;
@@ -17,103 +16,103 @@ pub const COUNT: usize = 140;
 // and the columns left.
 pub const KIND: usize = 0;
 
-pub const COMMAND: usize = 1;
+pub const COMMAND: usize = KIND + 1;
 
-pub const ARGUMENT: usize = 2;
+pub const ARGUMENT: usize = KIND + 2;
 
-pub const IMAGE_MODE: usize = 3;
+pub const IMAGE_MODE: usize = KIND + 3;
 
-pub const IMAGE_BYTE: usize = 4;
+pub const IMAGE_BYTE: usize = KIND + 4;
 
-pub const IMAGE_COLUMNS: usize = 5;
+pub const IMAGE_COLUMNS: usize = KIND + 5;
 
 // The place.
-pub const ACROSS: usize = 6;
+pub const ACROSS: usize = IMAGE_COLUMNS + 1;
 
-pub const DOWN: usize = 7;
+pub const DOWN: usize = ACROSS + 1;
 
 // Margins, and the page.
-pub const LEFT: usize = 8;
+pub const LEFT: usize = DOWN + 1;
 
-pub const RIGHT: usize = 9;
+pub const RIGHT: usize = LEFT + 1;
 
-pub const PAGE: usize = 10;
+pub const PAGE: usize = RIGHT + 1;
 
-pub const SKIP: usize = 11;
+pub const SKIP: usize = PAGE + 1;
 
-pub const LINE: usize = 12;
+pub const LINE: usize = PAGE + 2;
 
 // The settings of the start: the dots of an inch across and down (which follow from each other), automatic line feed,
 // the width of the paper.
-pub const DOTS_ACROSS: usize = 13;
+pub const DOTS_ACROSS: usize = LINE + 1;
 
-pub const DOTS_DOWN: usize = 14;
+pub const DOTS_DOWN: usize = DOTS_ACROSS + 1;
 
-pub const AUTO_FEED: usize = 15;
+pub const AUTO_FEED: usize = DOTS_ACROSS + 2;
 
-pub const PAPER_WIDTH: usize = 16;
+pub const PAPER_WIDTH: usize = DOTS_ACROSS + 3;
 
 // What the width of a letter depends on.
-pub const PITCH: usize = 17;
+pub const PITCH: usize = PAPER_WIDTH + 1;
 
-pub const SPACING: usize = 18;
+pub const SPACING: usize = PITCH + 1;
 
-pub const WIDE: usize = 19;
+pub const WIDE: usize = PITCH + 2;
 
-pub const WIDE_ONCE: usize = 20;
+pub const WIDE_ONCE: usize = PITCH + 3;
 
-pub const REDUCED: usize = 21;
+pub const REDUCED: usize = PITCH + 4;
 
-pub const PROPORTIONAL: usize = 22;
+pub const PROPORTIONAL: usize = PITCH + 5;
 
 // How a letter looks.
-pub const BOLD: usize = 23;
+pub const BOLD: usize = PROPORTIONAL + 1;
 
-pub const DOUBLE_STRIKE: usize = 24;
+pub const DOUBLE_STRIKE: usize = BOLD + 1;
 
-pub const ITALIC: usize = 25;
+pub const ITALIC: usize = BOLD + 2;
 
-pub const UNDERLINE: usize = 26;
+pub const UNDERLINE: usize = BOLD + 3;
 
-pub const SUPERSCRIPT: usize = 27;
+pub const SUPERSCRIPT: usize = UNDERLINE + 1;
 
-pub const SUBSCRIPT: usize = 28;
+pub const SUBSCRIPT: usize = SUPERSCRIPT + 1;
 
-pub const FONT: usize = 29;
+pub const FONT: usize = SUBSCRIPT + 1;
 
-pub const COUNTRY: usize = 30;
+pub const COUNTRY: usize = FONT + 1;
 
-pub const OUTLINE: usize = 31;
+pub const OUTLINE: usize = FONT + 2;
 
-pub const DOUBLE_HEIGHT: usize = 32;
+pub const DOUBLE_HEIGHT: usize = FONT + 3;
 
-pub const ITALIC_TABLE: usize = 33;
+pub const ITALIC_TABLE: usize = FONT + 4;
 
-pub const DOWNLOAD: usize = 34;
+pub const DOWNLOAD: usize = FONT + 5;
 
 // Draft quality, and whether 80h to 9Fh print.
-pub const DRAFT: usize = 35;
+pub const DRAFT: usize = DOWNLOAD + 1;
 
-pub const UPPER_PRINTS: usize = 36;
+pub const UPPER_PRINTS: usize = DRAFT + 1;
 
 // What follows from the settings: style bits, advance, column width.
-pub const STYLE: usize = 37;
+pub const STYLE: usize = UPPER_PRINTS + 1;
 
-pub const ADVANCE: usize = 38;
+pub const ADVANCE: usize = STYLE + 1;
 
-pub const COLUMN_WIDTH: usize = 39;
+pub const COLUMN_WIDTH: usize = STYLE + 2;
 
 // Whether vertical stops were set; then three lists of stops, each a count and its stops.
-pub const LINES_SET: usize = 40;
+pub const LINES_SET: usize = COLUMN_WIDTH + 1;
 
-pub const COLUMN_COUNT: usize = 41;
+pub const COLUMN_COUNT: usize = LINES_SET + 1;
 
-pub const COLUMN_STOPS: usize = 42;
+pub const COLUMN_STOPS: usize = COLUMN_COUNT + 1;
 
-pub const LINE_COUNT: usize = 74;
+pub const LINE_COUNT: usize = COLUMN_STOPS + TabStops::ROOM;
 
-pub const LINE_STOPS: usize = 75;
+pub const LINE_STOPS: usize = LINE_COUNT + 1;
 
-pub const GATHERED_COUNT: usize = 107;
+pub const GATHERED_COUNT: usize = LINE_STOPS + TabStops::ROOM;
 
-pub const GATHERED_STOPS: usize = 108;
+pub const GATHERED_STOPS: usize = GATHERED_COUNT + 1;

@@ -15,7 +15,7 @@ use printer::stops::Stops;
 use printer::stops::TabStops;
 ghost use mathlib.Core.Path.{_≡_};
 ghost use Prim.Native.Nat.{_+_, _≤_};
-ghost use Rattle.registers.specs.Layout.{registerCount};
+ghost use Rattle.registers.specs.Register.{registerCount};
 ghost use Rattle.registers.specs.Stores.{over, listStored, stopsStored};
 ghost use Rattle.registers.specs.State.{registersOf};
 

@@ -218,7 +218,7 @@ pub(crate) fn pending_in(m: &[u32; COUNT]) -> Pending
     }
 }
 
-pub(crate) fn waiting_in(m: &[u32; COUNT]) -> Waiting
+pub fn waiting_in(m: &[u32; COUNT]) -> Waiting
     ensures { λ r. ⌜ r ≡ waitingOf (pendingIn (now (m .entry))) ⌝ }
 {
     waiting_of(pending_in(m))

@@ -16,14 +16,16 @@ use printer::state::Printer;
 use printer::units::Units;
 ghost use mathlib.Core.Path.{_≡_};
 ghost use mathlib.Core.List.{_++_};
+ghost use Prim.Native.Nat.{_-_};
 ghost use lib.ListN.{take, replicate};
 ghost use Rattle.printer.specs.PowerOn.{powerOn};
+ghost use Rattle.registers.specs.Register.{acrossAt, registerCount};
 ghost use Rattle.registers.specs.Layout.{words};
 ghost use Rattle.registers.specs.Stores.{stores, staleIn, powerOnCells, columnCells};
 
 // All registers but those of what is waited for are 0.
 fn clear(m: &mut [u32; COUNT])
-    ensures { λ _. ⌜ now (m .exit) ≡ take 6 (now (m .entry)) ++ replicate 134 0 ⌝ }
+    ensures { λ _. ⌜ now (m .exit) ≡ take acrossAt (now (m .entry)) ++ replicate (registerCount - acrossAt) 0 ⌝ }
 {
     let n = whole(&*m);
     let mut i: usize = ACROSS;

@@ -49,7 +49,7 @@ use printer::units::Resolution;
 ghost use mathlib.Core.Path.{_≡_};
 ghost use lib.ListN.{length};
 ghost use Rattle.printer.specs.Units.{perInchAcross, perInchDown};
-ghost use Rattle.registers.specs.Layout.{registerCount};
+ghost use Rattle.registers.specs.Register.{registerCount};
 ghost use Rattle.registers.specs.Stores.{stores, placeCells, lengthCells, setupCells, widthCells, emphasisCells, faceCells, printingCells, derivedCells, settingsStored};
 
 // How many registers there are: lent as a slice, an array tells its length to a proof.
@@ -60,7 +60,7 @@ pub fn whole(m: &[u32; COUNT]) -> usize
     all.len()
 }
 
-pub(crate) fn dots_across(r: Resolution) -> u32
+pub fn dots_across(r: Resolution) -> u32
     ensures { λ n. ⌜ n ≡ perInchAcross r ⌝ }
 {
     match r {
@@ -69,7 +69,7 @@ pub(crate) fn dots_across(r: Resolution) -> u32
     }
 }
 
-pub(crate) fn dots_down(r: Resolution) -> u32
+pub fn dots_down(r: Resolution) -> u32
     ensures { λ n. ⌜ n ≡ perInchDown r ⌝ }
 {
     match r {

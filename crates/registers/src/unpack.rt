@@ -17,7 +17,7 @@ use printer::stops::TabStops;
 ghost use mathlib.Core.Path.{_≡_};
 ghost use Prim.Native.Nat.{_+_, _≤_};
 ghost use lib.ListN.{take, drop};
-ghost use Rattle.registers.specs.Layout.{registerCount};
+ghost use Rattle.registers.specs.Register.{registerCount};
 ghost use Rattle.registers.specs.Groups.{stopsIn};
 ghost use Rattle.registers.specs.State.{printerIn};
 

@@ -6,13 +6,13 @@ use borrow.Author.Needs.{needs}
 use denote.Ref.{now}
 use lib.ListN.{length, drop, length-drop}
 use lib.Seq.{getD-drop}
-use Rattle.registers.specs.Layout.{registerCount}
+use Rattle.registers.specs.Register.{gatheredCountAt, registerCount}
 use Rattle.interpreter.proofs.Pasting.{Laid, begins, goes-on, still, whole}
 use Rattle.interpreter.proofs.lists.copy_gathered.Statement.{statement}
 use Rattle.interpreter.proofs.lists.copy_gathered.Tie as tie
 
 abbrev Inv-loop : tie.InvT-loop
-Inv-loop m₀ to i₀ m i = (i ≤ 33) × (length m₀ ≡ registerCount → Laid m₀ to (drop 107 m₀) i m)
+Inv-loop m₀ to i₀ m i = (i ≤ 33) × (length m₀ ≡ registerCount → Laid m₀ to (drop gatheredCountAt m₀) i m)
 
 abbrev μ-loop : tie.MeasureT-loop
 μ-loop m₀ to i₀ m i = 33 - i
@@ -28,13 +28,13 @@ loop-again c =
       omega arith,
       λ e.
           let v = b .loop .inv .1 e in
-          goes-on v (omega arith) (simp length-drop (omega arith)) (still v (107 + i) (omega arith) (omega arith) ∙ sym (getD-drop 107 m i 0)),
+          goes-on v (omega arith) (simp length-drop (omega arith)) (still v (gatheredCountAt + i) (omega arith) (omega arith) ∙ sym (getD-drop gatheredCountAt m i 0)),
     )
 
 returns : tie.Need-returns Inv-loop μ-loop
 returns c e =
     let m = now (c .before .before .args .m) in
-    let k : length (drop 107 m) ≡ 33 = simp length-drop (omega arith) in
+    let k : length (drop gatheredCountAt m) ≡ 33 = simp length-drop (omega arith) in
     rw k at (whole (c .before .loop .inv .1 e) (omega arith))
 
 pub copy-gathered-spec : {M : Type 1} → statement M

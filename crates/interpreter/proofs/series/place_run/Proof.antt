@@ -7,6 +7,7 @@ use borrow.Author.Needs.{needs}
 use denote.Ref.{now}
 use lib.ListN.{getD}
 use lib.Seq.{take-take}
+use Rattle.registers.specs.Register.{acrossAt}
 use Rattle.interpreter.proofs.SeriesLoop.{part-same, part-length, fewer-line, on-paper, done-within}
 use Rattle.interpreter.proofs.series.place_run.Statement.{statement}
 use Rattle.interpreter.proofs.series.place_run.Tie as tie
@@ -32,7 +33,7 @@ few q =
 -- the units moved by
 moved : (q : tie.After-place-all)
     → (let a = q .before .before .before .before .before .before .before in
-    q .place-all .result .done * a .args .step .0 + getD (now (a .args .m)) 6 0 ≤ 28800)
+    q .place-all .result .done * a .args .step .0 + getD (now (a .args .m)) acrossAt 0 ≤ 28800)
 moved q =
     let h = q .before .before .before .before .before .before .before .pre in
     omega (arith, done-within (q .place-all .ensures .1 .0) (fewer-line (h .line) (few q)) (h .first), h .paper .0)

@@ -4,6 +4,7 @@ use mathlib.Core.Bool.{Bool}
 use borrow.Author.Needs.{needs}
 use denote.Ref.{now}
 use lib.ListN.{getD}
+use Rattle.registers.specs.Register.{wideOnceAt}
 use Rattle.registers.specs.Layout.{flag}
 use Rattle.registers.specs.Groups.{isSet}
 use Rattle.registers.specs.Keeping.{doubleStored}
@@ -17,7 +18,7 @@ returns c =
     let a = b .before .before .before .args in
     let m = now (a .m) in
     rw (c .store-double .ensures, c .before .flag2 .ensures, b .flag .ensures)
-    (ap (λ (once : Bool). doubleStored m (flag (a .on)) (flag once)) (and-pick (a .on) (isSet (getD m 20 0))))
+    (ap (λ (once : Bool). doubleStored m (flag (a .on)) (flag once)) (and-pick (a .on) (isSet (getD m wideOnceAt 0))))
 
 pub double-spec : {M : Type 1} → statement M
 double-spec =

@@ -5,6 +5,7 @@ use mathlib.Core.List.{List}
 use borrow.Author.Needs.{needs}
 use lib.ListN.{getD}
 use Rattle.printer.specs.Settings.{withWideOnce}
+use Rattle.registers.specs.Register.{wideAt}
 use Rattle.registers.specs.Layout.{flag, laid}
 use Rattle.registers.specs.Keeping.{doubleStored}
 use Rattle.registers.proofs.Styles.{styled-held, double-kept}
@@ -19,7 +20,7 @@ returns c p v h =
     let on = b .before .before .before .before .args .on in
     c .keep-widths .ensures
     ∙ rw (b .store-double .ensures, b .before .flag .ensures)
-    (widths-kept h (withWideOnce (p .settings) on) (λ (l : List ℕ). doubleStored l (getD l 19 0) (flag on)) (double-kept (styled-held h) _ _) (h .small) refl)
+    (widths-kept h (withWideOnce (p .settings) on) (λ (l : List ℕ). doubleStored l (getD l wideAt 0) (flag on)) (double-kept (styled-held h) _ _) (h .small) refl)
 
 pub wide-once-spec : {M : Type 1} → statement M
 wide-once-spec =

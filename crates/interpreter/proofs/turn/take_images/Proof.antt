@@ -6,6 +6,7 @@ use borrow.Author.Needs.{needs}
 use denote.Ref.{now}
 use lib.ListN.{length, getD}
 use Rattle.printer.proofs.Modes.{step-within}
+use Rattle.registers.specs.Register.{acrossAt, rightAt}
 use Rattle.interpreter.specs.Taking.{Fits}
 use Rattle.interpreter.proofs.SeriesLoop.{fewer-fit, none-done, done-few, not-moved, not-written}
 use Rattle.interpreter.proofs.Taken.{in-margins, right-most, image-bounds, image-fonts, columns-taken}
@@ -49,7 +50,7 @@ fit : (q : tie.After-place-columns)
     → (let b = q .before .before .before .before .before in
     let a = b .before .before .before .before .before .before .before in
     Fits (q .place-columns .result .count) (b .image-bytes .result) (a .args .k) (a .args .columns) (length (now (a .args .input))) (length (now (a .args .out)))
-    (getD (now (a .args .m)) 6 0) (b .before .image-step .result .0) (getD (now (a .args .m)) 9 0))
+    (getD (now (a .args .m)) acrossAt 0) (b .before .image-step .result .0) (getD (now (a .args .m)) rightAt 0))
 fit q = fewer-fit (q .before .before .before .most-here .ensures) (q .place-columns .ensures .few)
 
 take-image-requires : tie.Need-take-image-requires

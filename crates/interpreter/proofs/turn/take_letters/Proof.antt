@@ -4,6 +4,7 @@ use native.Mathlib.Omega.{arith}
 use borrow.Author.Needs.{needs}
 use denote.Ref.{now}
 use lib.ListN.{length, take, getD}
+use Rattle.registers.specs.Register.{acrossAt, rightAt, upperPrintsAt, advanceAt}
 use Rattle.registers.specs.Groups.{isSet}
 use Rattle.interpreter.proofs.Following.{letter-from, letters-from}
 use Rattle.interpreter.specs.Taking.{Fits}
@@ -40,7 +41,7 @@ place-run-requires c κs =
 fit : (q : tie.After-place-run)
     → (let a = q .before .before .before .before .before .before .before .before .before .before in
     let n = length (now (a .args .input)) in
-    Fits (q .place-run .result .count) 1 1 n n (length (now (a .args .out))) (getD (now (a .args .m)) 6 0) (getD (now (a .args .m)) 38 0) (getD (now (a .args .m)) 9 0))
+    Fits (q .place-run .result .count) 1 1 n n (length (now (a .args .out))) (getD (now (a .args .m)) acrossAt 0) (getD (now (a .args .m)) advanceAt 0) (getD (now (a .args .m)) rightAt 0))
 fit q = fewer-fit (q .before .before .before .most-here .ensures) (q .place-run .ensures .few)
 
 first-read : tie.Need-shared-slice-read-letter
@@ -64,7 +65,7 @@ returns c =
     let q = i .before .before .before in
     let a = q .before .before .before .before .before .before .before .before .before .before in
     let e = q .place-run .ensures in
-    let same = not-moved (now (a .args .m)) (getD (now (a .args .m)) 38 0) (none-done (e .reached) (i .if1 .taken) (omega arith)) (e .moved) in
+    let same = not-moved (now (a .args .m)) (getD (now (a .args .m)) advanceAt 0) (none-done (e .reached) (i .if1 .taken) (omega arith)) (e .moved) in
     let kept = not-written (i .if1 .taken) (e .records) in (
       λ p v h.
           byte-taken (a .pre .1 .0 .0) (a .pre .1 .0 .1)
@@ -86,7 +87,7 @@ returns-2 c =
     let e = q .place-run .ensures in (
       λ p v h.
           rw (e .moved)
-          (letters-taken h _ refl (fit q) (letters-from (isSet (getD (now (a .args .m)) 36 0)) (take (q .place-run .result .count) (now (a .args .input))) (a .pre .1 .1 .0 .1) (e .printed)) (e .reached) (t .letter-record .ensures p v (h .held)) (e .records)),
+          (letters-taken h _ refl (fit q) (letters-from (isSet (getD (now (a .args .m)) upperPrintsAt 0)) (take (q .place-run .result .count) (now (a .args .input))) (a .pre .1 .1 .0 .1) (e .printed)) (e .reached) (t .letter-record .ensures p v (h .held)) (e .records)),
       (omega (arith, c .if1 .left), e .left),
     )
 

@@ -1,0 +1,16 @@
+-- A list being gathered: the test of its last byte, and those of its stops, are its bounds.
+use Rattle.registers.specs.Groups.{stopsIn}
+use borrow.Author.Needs.{needs}
+use Rattle.accepting.proofs.bounds.gathering_within.Statement.{statement}
+use Rattle.accepting.proofs.bounds.gathering_within.Tie as tie
+
+returns : tie.Need-returns
+unfolding stopsIn
+returns c = simp (c .list-within .ensures, c .before .before .last .ensures, c .before .before .before .before .before .stop-in .ensures)
+
+pub gathering-within-spec : {M : Type 1} → statement M
+gathering-within-spec =
+    tie.close
+    (tie.spec (λ c. search needs) (λ c κs. search needs) (λ c. search needs) (λ c. search needs) (λ c. search needs)
+    (λ c κs. search needs) (λ c. search needs) (λ c. search needs) (λ c. search needs) (λ c. search needs)
+    (λ c κs. search needs) returns)
