@@ -24,7 +24,8 @@ speed: measures the proved reader, the plain one byte by byte, and the plain one
                            of columns, by how far it has to look
     speed --watch FILE     fails where the proved reader takes over a tenth more instructions for a
                            byte, or for such a call, than the file's limit, or where such a call
-                           takes more in a longer list with the answer among the newest ten
+                           takes more in a longer list with the answer among the newest ten, or
+                           where a reading call takes over 512 bytes of stack
     speed --write FILE     writes what it takes now into the file, as the limits
     speed --runs READER..  one run of each reader on each input, to be counted
     speed --slot-calls     one such call on each list, to be counted

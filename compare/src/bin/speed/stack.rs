@@ -1,5 +1,7 @@
 //! The stack that the proved reader takes: it is called on a stack of its own,
-//! filled with a pattern, and what has changed is looked at.
+//! filled with a pattern, and what has changed is looked at. What it calls of
+//! the system's library is bound before the program begins (`-z now`, as Rust
+//! links); bound at the first call it would show the loader's stack too.
 
 use crate::readers::{PIECES, RESOLUTIONS};
 use crate::{slots, Problem};
@@ -13,6 +15,9 @@ use std::hint::black_box;
 
 const STACK: usize = 64 * 1024;
 const PATTERN: u8 = 0xA5;
+/// The most stack that a reading call may take below its caller, in bytes: the
+/// boards that the library goes on have little.
+const MOST: usize = 512;
 /// The length of the input, in phrases of some bytes.
 const PHRASES: u64 = 4_000;
 
@@ -43,6 +48,17 @@ pub fn print() -> Result<(), Problem> {
     println!("| reading call, the deepest | {read} |");
     println!("| what stands in a range of columns, the deepest | {slot} |");
     Ok(())
+}
+
+/// Fails where a reading call goes deeper than it may; else says how deep.
+pub fn watch() -> Result<usize, Problem> {
+    let [_, read, _] = measure();
+    match read <= MOST {
+        true => Ok(read),
+        false => Err(format!(
+            "a reading call takes {read} bytes of stack; {MOST} are the limit"
+        )),
+    }
 }
 
 /// The depth of a start, of the deepest reading call on inputs of every

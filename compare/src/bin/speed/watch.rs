@@ -1,9 +1,9 @@
-//! The proved reader's instructions held to written limits: for a byte, and for
-//! a call that asks what stands in a range of columns.
+//! The proved reader's instructions held to written limits, for a byte and for
+//! a call that asks what stands in a range of columns; and its stack to its own.
 
 use crate::counts::count;
 use crate::readers::{subjects, Reader, Subject};
-use crate::{slots, Problem};
+use crate::{slots, stack, Problem};
 use std::fmt::Write;
 
 /// How far above its limit a count may be.
@@ -35,7 +35,8 @@ pub fn write(file: &str) -> Result<(), Problem> {
     std::fs::write(file, text).map_err(|error| format!("{file}: {error}"))
 }
 
-/// Fails where a count is too far above its limit, or has none.
+/// Fails where a count is too far above its limit, or has none, and where a
+/// reading call takes too much stack.
 pub fn watch(file: &str) -> Result<(), Problem> {
     let text = std::fs::read_to_string(file).map_err(|error| format!("{file}: {error}"))?;
     let counts = counts()?;
@@ -52,10 +53,11 @@ pub fn watch(file: &str) -> Result<(), Problem> {
              bytes of a piece) or a call (slot, list, records):{exceeded}"
         ));
     }
+    let deep = stack::watch()?;
     let (bytes, calls) = (subjects().len(), slots::lists().len());
     println!(
         "speed: instructions within a tenth of their limits, for a byte on all {bytes} inputs and \
-         for a slot in all {calls} lists; the answer among the newest ten costs no more in longer ones"
+         for a slot in all {calls} lists; the answer among the newest ten costs no more in longer ones; {deep} bytes of stack below a reading call"
     );
     Ok(())
 }
