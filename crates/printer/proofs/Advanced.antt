@@ -17,7 +17,7 @@ use Rattle.printer.specs.Types.{Command, Frame, Printer, Record, Silent,
 use Rattle.printer.proofs.Frames.{clash}
 
 -- a byte that stands for ESC begins an escape
-escape-frame : (upper : Bool) (b : ℕ) → StandsFor upper b 0x1B
+pub escape-frame : (upper : Bool) (b : ℕ) → StandsFor upper b 0x1B
     → frame upper Waiting.Nothing b ≡ Frame.Whole (Command.Silent (Silent.Escape b)) Waiting.SecondByte
 unfolding frame isLetter readAs lookup coded controls firsts
 escape-frame true b (inl e) = rw e refl

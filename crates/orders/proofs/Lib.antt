@@ -1,0 +1,4 @@
+pub mod Items
+pub mod Orders
+pub mod Moves
+pub mod Theorems
