@@ -22,6 +22,8 @@
  *     if (part.length > 0)
  *         ... the record at out + part.offset is what stands in the columns 1200 to 1499 now ...
  *
+ * escp_write goes the other way: letters and their places come in, and ESC/P that puts them there comes out.
+ *
  * Input may come in pieces of any length, cut anywhere, even inside a command: the records are those of the whole.
  */
 #ifndef ESCP_H
@@ -309,6 +311,53 @@ typedef struct escp_part {
  * then. *part may not overlap the list.
  */
 uint8_t escp_slot(const uint8_t *records, size_t length, uint16_t from, uint16_t to, escp_part *part);
+
+/* Sizes of a list of letters, and of what it is written by. */
+enum {
+    ESCP_LETTER_SIZE = 5, /* the bytes of a letter */
+    ESCP_CARD_BEGIN = 2,  /* the bytes that a card begins with: ESC @ */
+    ESCP_LETTER_MOST = 33 /* the most bytes that a letter is written by: eight ESC J, ESC $, ESC \, the letter */
+};
+
+/* Lays a letter and its place in units down as the ESCP_LETTER_SIZE bytes of a list: the byte, across (2 bytes), down (2). */
+static inline void escp_put_letter(uint8_t *bytes, uint8_t byte, uint16_t across, uint16_t down)
+{
+    bytes[0] = byte;
+    bytes[1] = (uint8_t)(across % 256u);
+    bytes[2] = (uint8_t)(across / 256u);
+    bytes[3] = (uint8_t)(down % 256u);
+    bytes[4] = (uint8_t)(down / 256u);
+}
+
+/* The answers of escp_write, besides ESCP_LENGTH_REFUSED: here, that the list's length is no multiple of ESCP_LETTER_SIZE. */
+enum {
+    ESCP_WRITTEN = 0,       /* the card is written */
+    ESCP_BYTE_REFUSED = 8,  /* a letter's byte is not from 20h to 7Eh */
+    ESCP_PLACE_REFUSED = 9, /* a letter's place is none that is taken */
+    ESCP_ROOM_REFUSED = 10  /* the output is shorter than ESCP_CARD_BEGIN, and ESCP_LETTER_MOST for each letter */
+};
+
+/*
+ * Writes a card: letters with places in units of 1/3600 inch from the left of the paper and from the top of the page, as
+ * ESC/P that begins with ESC @. Read from a start at a width of 28800, automatic line feed off, at 300 or 203 dots, it
+ * prints these letters at exactly these places, in this order: plain TX of 10 cpi (advance 360; style, font and country
+ * 0), and no others. Its first record is the LN of ESC @; no page is turned, nothing is passed over, and nothing is
+ * waited for at its end.
+ *
+ * Places are multiples of 20, across at most 28440, down at most 39580 and not less than that of the letter before.
+ *
+ * 0: *written bytes were written at the beginning of the output. Without letters they are ESC @ alone.
+ * 5: `letters_length` is no multiple of ESCP_LETTER_SIZE. It is tested before all else.
+ * 8, 9: of the first letter that cannot be written: its byte, or else its place.
+ * 10: the output is shorter than ESCP_CARD_BEGIN + ESCP_LETTER_MOST * n bytes for n letters, though fewer may be
+ *    written. It is tested last.
+ * After 5, 8, 9 and 10 *written is 0. The output past *written stays as it was. *written is written whatever the
+ * answer; what it held does not matter.
+ *
+ * List and output may be empty (length 0). No pointer may be NULL, even of an empty one: nothing promises what happens
+ * then. The output and *written may not overlap, nor one of them with the list.
+ */
+uint8_t escp_write(const uint8_t *letters, size_t letters_length, uint8_t *out, size_t out_length, size_t *written);
 
 #ifdef __cplusplus
 }

@@ -1,11 +1,13 @@
 //! Holds the proved reader, through its C interface, against the plain one,
 //! and that against the plain one in runs: generated inputs and calls,
 //! arbitrary states, the reckoning of exact places, and a search for the
-//! shortest input that tells them apart; and the question what stands in a
-//! range of columns, asked of generated lists of records.
+//! shortest input that tells them apart; the question what stands in a range
+//! of columns, asked of generated lists of records; and cards, written from
+//! generated letters and read back.
 
 pub mod arbitrary;
 pub mod calls;
+pub mod cards;
 pub mod fields;
 pub mod generate;
 pub mod hold;

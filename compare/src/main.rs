@@ -1,26 +1,29 @@
 //! Holds the proved reader and both plain ones against each other on generated
-//! lists of calls and arbitrary states, and the question what stands in a
-//! range of columns on generated lists of records.
+//! lists of calls and arbitrary states, the question what stands in a range of
+//! columns on generated lists of records, and the writers of a card on
+//! generated lists of letters.
 
 use compare::calls::calls;
 use compare::hold::{difference, outcomes, Case, Tally};
 use compare::random::Random;
 use compare::shortest::shortest;
-use compare::{arbitrary, registers, slots, tell, text};
+use compare::{arbitrary, cards, registers, slots, tell, text};
 use std::process::ExitCode;
 
 const HELP: &str = "\
 compare: holds the proved reader against the plain one, and that against the plain one in runs
 
     compare                        the gate run
-    compare --lists N --states N --slots N --seed S
-                                   so many lists of calls, arbitrary states, and lists of records
-                                   asked what stands in a range of columns
+    compare --lists N --states N --slots N --cards N --seed S
+                                   so many lists of calls, arbitrary states, lists of records
+                                   asked what stands in a range of columns, and cards written
+                                   and read back
     compare --replay FILE          one case from a file, with all outcomes
     compare --help                 this text
 
-Without them, N is 400000 lists, 4000000 states and 2000000 slots, S is 1. A difference is printed
-with the shortest input found, which --replay reads, and the exit status is then 1.
+Without them, N is 400000 lists, 4000000 states, 2000000 slots and 400000 cards, S is 1. A
+difference is printed with the shortest input found, which --replay reads, and the exit status is
+then 1.
 ";
 
 const DIFFERENCE: u8 = 1;
@@ -32,6 +35,7 @@ struct Amount {
     lists: u64,
     states: u64,
     slots: u64,
+    cards: u64,
     seed: u64,
 }
 
@@ -65,6 +69,7 @@ fn task(arguments: &[String]) -> Result<Task, String> {
         lists: 400_000,
         states: 4_000_000,
         slots: 2_000_000,
+        cards: 400_000,
         seed: 1,
     };
     let words: Vec<&str> = arguments.iter().map(String::as_str).collect();
@@ -79,6 +84,7 @@ fn task(arguments: &[String]) -> Result<Task, String> {
             "--lists" => &mut amount.lists,
             "--states" => &mut amount.states,
             "--slots" => &mut amount.slots,
+            "--cards" => &mut amount.cards,
             "--seed" => &mut amount.seed,
             _ => return Err(format!("bad argument {option:?}; see compare --help")),
         };
@@ -90,12 +96,13 @@ fn task(arguments: &[String]) -> Result<Task, String> {
     Ok(Task::Run(amount))
 }
 
-/// Compares lists, states, then slots; prints what was done, or the
+/// Compares lists, states, slots, then cards; prints what was done, or the
 /// difference.
 fn run(amount: &Amount) -> ExitCode {
     let mut seeds = Random::new(amount.seed);
     let readers = readers(amount, &mut seeds);
-    match readers.and_then(|()| questions(amount, &mut seeds)) {
+    let asked = readers.and_then(|()| questions(amount, &mut seeds));
+    match asked.and_then(|()| written(amount, &mut seeds)) {
         Ok(()) => ExitCode::SUCCESS,
         Err(status) => status,
     }
@@ -151,6 +158,36 @@ fn questions(amount: &Amount, seeds: &mut Random) -> Result<(), ExitCode> {
     Ok(())
 }
 
+/// Cards written and read back; the exit status if there is a difference.
+fn written(amount: &Amount, seeds: &mut Random) -> Result<(), ExitCode> {
+    let mut tally = cards::Tally::default();
+    for number in 1..=amount.cards {
+        let card = cards::generate::card(&mut Random::new(seeds.number()));
+        if cards::difference(&card, &mut tally).is_some() {
+            let before = format!("after {} cards without one", number - 1);
+            println!("compare: difference in card {number}, {before}");
+            return Err(report_card(&card));
+        }
+    }
+    println!(
+        "compare: no difference in {} cards, {} of them refused; {} letters, {} bytes written and \
+         read back",
+        amount.cards, tally.refused, tally.letters, tally.bytes
+    );
+    Ok(())
+}
+
+/// Prints the shortest card that differs and what came back.
+fn report_card(card: &cards::Card) -> ExitCode {
+    let found = |card: &cards::Card| cards::difference(card, &mut cards::Tally::default());
+    let short = cards::shortest::shortest(card, &|card| found(card).is_some());
+    println!("the shortest list found:\n{}", cards::text::text(&short));
+    if let Some(found) = found(&short) {
+        print!("{}", cards::text::difference(&found));
+    }
+    ExitCode::from(DIFFERENCE)
+}
+
 /// Prints the shortest list that differs and what came back.
 fn report_question(question: &slots::Question) -> ExitCode {
     let differs = |question: &slots::Question| !slots::answers(question).same();
@@ -179,6 +216,10 @@ fn replay(file: &str) -> Result<ExitCode, String> {
         let question = slots::text::question(&text).map_err(told)?;
         return Ok(replay_question(&question));
     }
+    if cards::text::is_card(&text) {
+        let card = cards::text::card(&text).map_err(told)?;
+        return Ok(replay_card(&card));
+    }
     let case = text::case(&text).map_err(told)?;
     for (index, (plain, proved)) in outcomes(&case).iter().enumerate() {
         print!("call {}:\n{}", index + 1, tell::both(plain, proved));
@@ -205,4 +246,23 @@ fn replay_question(question: &slots::Question) -> ExitCode {
     }
     println!("difference");
     ExitCode::from(DIFFERENCE)
+}
+
+/// Writes one card, reads it, and prints what both writers come back with.
+fn replay_card(card: &cards::Card) -> ExitCode {
+    print!("{}", cards::text::both(&cards::answers(card)));
+    match cards::difference(card, &mut cards::Tally::default()) {
+        None => {
+            println!("no difference");
+            ExitCode::SUCCESS
+        }
+        Some(cards::Difference::Written(_)) => {
+            println!("difference");
+            ExitCode::from(DIFFERENCE)
+        }
+        Some(found) => {
+            print!("difference: {}", cards::text::difference(&found));
+            ExitCode::from(DIFFERENCE)
+        }
+    }
 }

@@ -33,6 +33,8 @@ fn bad_usage() {
         &["--slots"],
         &["--slots", "5.5"],
         &["--slot", "5"],
+        &["--cards"],
+        &["--cards", "few"],
         &["--seed", "1", "2"],
         &["--replay"],
         &["--replay", "/no/such/file"],
@@ -55,13 +57,14 @@ fn bad_usage() {
 #[test]
 fn a_short_run() {
     let amount = ["--lists", "20", "--slots", "40", "--states", "30"];
-    let output = compare(&[&amount[..], &["--seed", "9"]].concat());
+    let output = compare(&[&amount[..], &["--cards", "50", "--seed", "9"]].concat());
     let lines = String::from_utf8_lossy(&output.stdout);
     assert_eq!(output.status.code(), Some(0));
     let said: Vec<&str> = lines.lines().collect();
-    assert_eq!(said.len(), 2, "{lines}");
+    assert_eq!(said.len(), 3, "{lines}");
     assert!(said[0].contains("in 20 lists of calls and 30 states"));
     assert!(said[1].contains("in 40 slots"), "{lines}");
+    assert!(said[2].contains("in 50 cards"), "{lines}");
 }
 
 /// Records as `escp` writes them, asked again; a line that is none is refused.
@@ -101,22 +104,28 @@ fn the_stack_is_measured() {
     let output = speed(&["--stack"]);
     let table = String::from_utf8_lossy(&output.stdout);
     assert_eq!(output.status.code(), Some(0), "{table}");
-    assert_eq!(table.lines().count(), 5, "{table}");
+    assert_eq!(table.lines().count(), 6, "{table}");
 }
 
-/// Slots are measured without valgrind too, but for their instructions.
+/// Slots and cards are measured without valgrind too, but for their
+/// instructions.
 #[test]
-fn slots_are_measured() {
-    let mut slots = Command::new(env!("CARGO_BIN_EXE_speed"));
-    let output = slots.arg("--slots").env("PATH", "").output().unwrap();
-    let table = String::from_utf8_lossy(&output.stdout);
-    assert_eq!(output.status.code(), Some(0), "{table}");
-    let lines: Vec<&str> = table.lines().collect();
-    assert_eq!(lines.len(), 9, "{table}");
-    assert!(lines[2..].iter().all(|line| line.contains("not counted")));
-    let output = speed(&["--slot-calls"]);
-    assert_eq!(output.status.code(), Some(0));
-    assert!(output.stdout.is_empty() && output.stderr.is_empty());
+fn slots_and_cards_are_measured() {
+    for (table, calls, rows) in [
+        ("--slots", "--slot-calls", 7),
+        ("--cards", "--card-calls", 3),
+    ] {
+        let mut measured = Command::new(env!("CARGO_BIN_EXE_speed"));
+        let output = measured.arg(table).env("PATH", "").output().unwrap();
+        let table = String::from_utf8_lossy(&output.stdout);
+        assert_eq!(output.status.code(), Some(0), "{table}");
+        let lines: Vec<&str> = table.lines().collect();
+        assert_eq!(lines.len(), 2 + rows, "{table}");
+        assert!(lines[2..].iter().all(|line| line.contains("not counted")));
+        let output = speed(&[calls]);
+        assert_eq!(output.status.code(), Some(0));
+        assert!(output.stdout.is_empty() && output.stderr.is_empty());
+    }
 }
 
 #[test]
@@ -126,4 +135,19 @@ fn help() {
         assert!(output.stdout.len() > 100);
         assert!(output.stderr.is_empty());
     }
+}
+
+/// A card written again and read back; a line that is none is refused.
+#[test]
+fn a_card_replayed() {
+    let file = concat!(env!("CARGO_TARGET_TMPDIR"), "/card");
+    std::fs::write(file, "card 35 1\n4114000000\n").unwrap();
+    let output = compare(&["--replay", file]);
+    let lines = String::from_utf8_lossy(&output.stdout);
+    assert_eq!(output.status.code(), Some(0), "{lines}");
+    let came = "number 0, 11 bytes: 1b401b2400001b5c010041";
+    let expected = format!("plain:  {came}\nproved: {came}\nno difference\n");
+    assert_eq!(lines, expected);
+    std::fs::write(file, "card 35\n4114000000\n").unwrap();
+    is_refused(&compare(&["--replay", file]));
 }

@@ -2,7 +2,8 @@
 //! records come out. One unit is 1/3600 inch. [`read`] takes byte by byte;
 //! [`read_in_runs`] takes letters that follow each other, and image data, in
 //! runs. Both give the same answers. [`slot`] asks a list of records what
-//! stands in a range of columns now.
+//! stands in a range of columns now. [`write`] goes the other way, from letters
+//! to ESC/P.
 
 mod bounds;
 mod commands;
@@ -16,9 +17,13 @@ mod state;
 mod stops;
 #[cfg(test)]
 mod tests;
+mod writing;
 
 pub use slot::{slot, ANSWERED, LIST_REFUSED};
 pub use state::{State, Stops, Waiting};
+pub use writing::{
+    write, BYTE_REFUSED, LETTERS_REFUSED, LETTER_SIZE, PLACE_REFUSED, ROOM_REFUSED, WRITTEN,
+};
 
 use reading::Reading;
 use records::RECORD_SIZE;

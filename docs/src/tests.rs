@@ -8,6 +8,7 @@ mod interlock;
 mod narrow_paper;
 mod open_points;
 mod slot;
+mod writing;
 
 use crate::records::RECORD_SIZE;
 use crate::{read_in_runs, Report, State, ROOM_FOR_A_BYTE};

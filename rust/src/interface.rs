@@ -34,4 +34,13 @@ extern "C" {
 
     /// See [`slot`](crate::slot).
     pub fn escp_slot(records: *const u8, length: usize, from: u16, to: u16, part: *mut Part) -> u8;
+
+    /// See [`write`](crate::write).
+    pub fn escp_write(
+        letters: *const u8,
+        letters_length: usize,
+        out: *mut u8,
+        out_length: usize,
+        written: *mut usize,
+    ) -> u8;
 }

@@ -1,5 +1,5 @@
 //! Reads the ESC/P legacy page language: bytes come in, placed records come
-//! out.
+//! out. [`write`] goes the other way, from letters with places to ESC/P.
 //!
 //! This is a safe cover over the static library libierbulosc.a, whose C
 //! interface is include/escp.h. The library keeps nothing between calls,
@@ -21,11 +21,13 @@
 //! ```
 
 pub mod interface;
+mod letters;
 mod records;
 mod state;
 
-use interface::{escp_read, escp_slot, escp_start, Counts, Part};
+use interface::{escp_read, escp_slot, escp_start, escp_write, Counts, Part};
 
+pub use letters::*;
 pub use records::*;
 pub use state::*;
 
@@ -43,7 +45,17 @@ pub const STATE_REFUSED: u8 = 4;
 /// [`slot`]: the record was found, or there is none.
 pub const ANSWERED: u8 = 0;
 /// [`slot`]: the list's length is no multiple of [`RECORD_SIZE`].
+/// Of the C call `escp_write`: of [`LETTER_SIZE`]; the cover cannot pass such.
 pub const LENGTH_REFUSED: u8 = 5;
+
+/// [`write`]: the card is written.
+pub const WRITTEN: u8 = 0;
+/// [`write`]: a letter's byte is not from 20h to 7Eh.
+pub const BYTE_REFUSED: u8 = 8;
+/// [`write`]: a letter's place is none that is taken.
+pub const PLACE_REFUSED: u8 = 9;
+/// [`write`]: the output is shorter than [`card_room`] says.
+pub const ROOM_REFUSED: u8 = 10;
 
 /// The room that must be left in the output for a byte to be read: it writes
 /// at most two records.
@@ -174,4 +186,53 @@ pub fn slot(records: &[u8], from: u16, to: u16) -> (u8, &[u8]) {
     // The part lies in the list, as is proved; a slice cannot know it.
     let rest = records.get(part.offset..).unwrap_or_default();
     (answer, rest.get(..part.length).unwrap_or_default())
+}
+
+/// Writes a card: letters with places in units, as ESC/P that begins with
+/// ESC @. Read from a start at a width of 28,800, automatic line feed off, at
+/// 300 or 203 dots, it prints these letters at exactly these places, in this
+/// order, plain and in 10 cpi, and no others; no page is turned, nothing is
+/// passed over, and nothing is waited for at its end.
+///
+/// Places are multiples of 20, across at most 28,440, down at most 39,580 and
+/// not less than that of the letter before.
+///
+/// The answer and the bytes written, at the beginning of the output, with it:
+/// - [`WRITTEN`]: the card; without letters ESC @ alone;
+/// - [`BYTE_REFUSED`], [`PLACE_REFUSED`]: of the first letter that cannot be
+///   written, its byte, or else its place; nothing is written;
+/// - [`ROOM_REFUSED`]: the output is shorter than [`card_room`] says, though
+///   fewer bytes may be written. This is tested last. Nothing is written.
+///
+/// The output past what is written stays as it was.
+///
+/// ```
+/// use ierbulosc::{card_room, write, Letter, PLACE_REFUSED, WRITTEN};
+///
+/// let mut out = [0; card_room(1)];
+/// let (answer, card) = write(&[Letter::new(b'A', 80, 40)], &mut out);
+/// assert_eq!(answer, WRITTEN);
+/// assert_eq!(card, b"\x1B@\x1BJ\x02\x1B$\x01\x00\x1B\\\x01\x00A");
+/// let (answer, card) = write(&[Letter::new(b'A', 81, 40)], &mut out);
+/// assert_eq!(answer, PLACE_REFUSED);
+/// assert!(card.is_empty());
+/// ```
+pub fn write<'a>(letters: &[Letter], out: &'a mut [u8]) -> (u8, &'a [u8]) {
+    let mut written = 0;
+    // SAFETY: no pointer is null, even of an empty slice, and each is good for
+    // its length: letters are bytes, LETTER_SIZE each, without others between.
+    // Output and count are held exclusively, so that they overlap nothing, and
+    // are plain numbers, which the library may set to any value. The library
+    // only reads the letters and keeps no pointer.
+    let answer = unsafe {
+        escp_write(
+            letters.as_ptr().cast(),
+            size_of_val(letters),
+            out.as_mut_ptr(),
+            out.len(),
+            &mut written,
+        )
+    };
+    // They lie in the output, as is proved; a slice cannot know it.
+    (answer, out.get(..written).unwrap_or_default())
 }

@@ -2,7 +2,7 @@
 //! structs field by field, registers by name and place, functions parameter
 //! by parameter, constants.
 
-use ierbulosc::{Record, RECORD_SIZE};
+use ierbulosc::{Letter, Record, LETTER_SIZE, RECORD_SIZE};
 
 const HEADER: &str = include_str!("../../include/escp.h");
 const FUNCTIONS: &str = include_str!("../src/interface.rs");
@@ -272,13 +272,17 @@ fn rattle_number(word: &str) -> usize {
 
 /// The parameters in C of one in Rattle: a slice is a pointer and a length,
 /// named by it unless it is the call's only one; an array behind a reference is
-/// a struct of as many numbers.
+/// a struct of as many numbers, and a number behind one a pointer.
 fn exported(name: &str, kind: &str, only_slice: bool) -> Vec<Named> {
     let (constant, behind) = match (kind.strip_prefix("&mut "), kind.strip_prefix('&')) {
         (Some(behind), _) => ("", behind),
         (None, Some(behind)) => ("const ", behind),
         (None, None) => return vec![(name.to_string(), c_type(kind))],
     };
+    if !behind.starts_with('[') {
+        let pointer = format!("{constant}{} *", c_type(behind));
+        return vec![(name.to_string(), pointer)];
+    }
     let behind = behind.trim_matches(['[', ']']);
     let Some((each, count)) = behind.split_once("; ") else {
         let slice = format!("{constant}{} *", c_type(behind));
@@ -313,7 +317,7 @@ fn rattle_functions() -> Vec<Function> {
 
 #[test]
 fn functions_are_those_exported() {
-    assert_eq!(c_functions().len(), 3);
+    assert_eq!(c_functions().len(), 4);
     assert_eq!(rust_functions(), c_functions());
     assert_eq!(rattle_functions(), c_functions());
 }
@@ -353,7 +357,7 @@ fn mark(letters: &[u8; 2]) -> usize {
 
 #[test]
 fn constants_are_those_of_the_header() {
-    let constants: [(&str, usize); 31] = [
+    let constants: [(&str, usize); 38] = [
         ("INPUT_USED", ierbulosc::INPUT_USED.into()),
         ("ALLOWANCE_USED", ierbulosc::ALLOWANCE_USED.into()),
         ("OUTPUT_FULL", ierbulosc::OUTPUT_FULL.into()),
@@ -361,6 +365,13 @@ fn constants_are_those_of_the_header() {
         ("STATE_REFUSED", ierbulosc::STATE_REFUSED.into()),
         ("ANSWERED", ierbulosc::ANSWERED.into()),
         ("LENGTH_REFUSED", ierbulosc::LENGTH_REFUSED.into()),
+        ("WRITTEN", ierbulosc::WRITTEN.into()),
+        ("BYTE_REFUSED", ierbulosc::BYTE_REFUSED.into()),
+        ("PLACE_REFUSED", ierbulosc::PLACE_REFUSED.into()),
+        ("ROOM_REFUSED", ierbulosc::ROOM_REFUSED.into()),
+        ("LETTER_SIZE", ierbulosc::LETTER_SIZE),
+        ("CARD_BEGIN", ierbulosc::CARD_BEGIN),
+        ("LETTER_MOST", ierbulosc::LETTER_MOST),
         ("RECORD_SIZE", ierbulosc::RECORD_SIZE),
         ("ROOM", ierbulosc::ROOM),
         ("REGISTERS", ierbulosc::REGISTERS),
@@ -443,4 +454,30 @@ fn records_are_filled_as_in_the_header() {
     let (byte, reason) = (one_byte("byte", &b), filled("style", &b) as u8);
     assert_eq!(no, Record::No { byte, reason });
     assert_eq!(c_struct("escp_record").len(), 10);
+}
+
+/// The byte that the header's function lays down at a place: its lines are
+/// such as `bytes[1] = (uint8_t)(across % 256u);`.
+fn laid(at: usize, byte: u8, across: u16, down: u16) -> u8 {
+    let line = between(HEADER, &format!("    bytes[{at}] = "), ";").unwrap();
+    let [across, down] = [across, down].map(u16::to_le_bytes);
+    match line {
+        "byte" => byte,
+        "(uint8_t)(across % 256u)" => across[0],
+        "(uint8_t)(across / 256u)" => across[1],
+        "(uint8_t)(down % 256u)" => down[0],
+        "(uint8_t)(down / 256u)" => down[1],
+        _ => panic!("{line}"),
+    }
+}
+
+#[test]
+fn letters_are_laid_down_as_in_the_header() {
+    let (byte, across, down) = (0x41, 0x1234, 0x5678);
+    let letter = Letter::new(byte, across, down);
+    let header: [u8; LETTER_SIZE] = std::array::from_fn(|at| laid(at, byte, across, down));
+    assert_eq!(letter.to_bytes(), header);
+    assert_eq!(Letter::from_bytes(header), letter);
+    let back = (letter.byte(), letter.across(), letter.down());
+    assert_eq!(back, (byte, across, down));
 }

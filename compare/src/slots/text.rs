@@ -46,7 +46,8 @@ fn range(line: &str) -> Option<(u16, u16)> {
     }
 }
 
-fn bytes(line: &str) -> Option<Vec<u8>> {
+/// The bytes that a line's digits stand for.
+pub fn bytes(line: &str) -> Option<Vec<u8>> {
     let digits: Option<Vec<u8>> = line
         .chars()
         .map(|digit| Some(digit.to_digit(16)? as u8))

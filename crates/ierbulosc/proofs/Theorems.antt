@@ -6,6 +6,7 @@ use mathlib.Core.List.{List, [], _∷_, map}
 use mathlib.Core.Logic.{_↔_}
 use native.Mathlib.Omega.{arith}
 use lib.ListN.{length, take, drop, getD}
+use lib.Seq.{take-append-seam}
 use Rattle.printer.specs.Tools.{Each, Bytes}
 use Rattle.printer.specs.Accepted.{Ours}
 use Rattle.printer.specs.Records.{roomForByte, encodedAll}
@@ -13,9 +14,11 @@ use Rattle.printer.specs.Steps.{stateAfter, recordsOver}
 use Rattle.printer.specs.Calls.{callOf, startOf, numberOf}
 use Rattle.printer.specs.Promises.{ReadingPromise}
 use Rattle.printer.specs.Cutting.{Readings, joinedInput, lastState, joinedOutput, bytesRead, ReadToEnd, Resumed, Leaves}
-use Rattle.printer.specs.Demand3.{joined, Demand3}
+use Rattle.printer.specs.Demand3.{Call, read, joined, Demand3}
 use Rattle.printer.specs.declared.answers.Answer.{Answer}
+use Rattle.printer.specs.declared.commands.Waiting.{Waiting}
 use Rattle.printer.specs.declared.state.Printer.{Printer}
+use Rattle.printer.specs.declared.units.Resolution.{Resolution}
 use Rattle.printer.proofs.Accepting.{fact-accepted}
 use Rattle.printer.proofs.Answering.{start-promise, read-promise}
 use Rattle.printer.proofs.CallLists.{start-ours}
@@ -23,12 +26,18 @@ use Rattle.printer.proofs.Choices.{bytes-take}
 use Rattle.printer.proofs.Cuts.{call-steps}
 use Rattle.printer.proofs.KeepingSteps.{steps-ours}
 use Rattle.printer.proofs.Theorems.{demand3, stopped-anywhere, resumed, pieces, reads-to-end}
-use Rattle.registers.specs.Register.{registerCount}
-use Rattle.registers.specs.State.{registersOf, printerIn, acceptedIn}
+use Rattle.registers.specs.Register.{kindAt, registerCount}
+use Rattle.registers.specs.Layout.{laid}
+use Rattle.registers.specs.State.{registersOf, printerIn, acceptedIn, pendingOf}
 use Rattle.registers.proofs.State.{registers-read, registers-accepted, plain, accepted-registers, accepted-printer, printer-typed}
 use Rattle.interpreter.specs.Calls.{runIn, leftIn}
+use Rattle.writer.specs.Card.{answerOf, writtenOf}
+use Rattle.writer.specs.Reading.{startOn}
+use Rattle.writer.specs.declared.CardAnswer.{CardAnswer}
+use Rattle.writer.proofs.Answers.{written-zero}
+use Rattle.writer.proofs.Theorems.{calls-read-back}
 use Rattle.ierbulosc.specs.Calls.{settingsIn}
-use Rattle.ierbulosc.specs.Lists.{LibraryStart, LibraryRead, LibraryCall, starts, reads, KeptRead, Linked, asStart, asRead, asCall, Same, ReadersCalls, Refused, RefusedUntilStart, joinedBytes, lastRegisters, givenInput, readInput, AllRead, GivenRest, LeavesRegisters}
+use Rattle.ierbulosc.specs.Lists.{LibraryStart, LibraryRead, LibraryCall, starts, reads, KeptRead, Linked, asStart, asRead, asCall, Same, ReadersCalls, Refused, RefusedUntilStart, joinedBytes, lastRegisters, givenInput, readInput, AllRead, GivenRest, LeavesRegisters, LibraryWrite, KeptWrite, givenLetters, cardBy, LibraryReadsBack}
 
 -- 1. Registers: accepted just if they are those of a printer within its bounds
 
@@ -213,3 +222,35 @@ pub library-reads-to-end : (c : LibraryRead) → KeptRead c → acceptedIn (c .s
 library-reads-to-end c h a b r =
     same c a h .0
     ∙ ap numberOf (reads-to-end (asRead c) (keeps-promise c a h) (fact-accepted _ (accepted-printer (c .state) a)) b r)
+
+-- 5. What the library writes, it reads back
+
+-- the bytes counted are those written
+card-written : (w : LibraryWrite) → KeptWrite w → cardBy w ≡ writtenOf (w .letters) (length (w .out))
+card-written w h = rw (h .count, h .output) (take-append-seam (writtenOf (w .letters) (length (w .out))) (drop (length (writtenOf (w .letters) (length (w .out)))) (w .out)))
+
+same-calls : (l : List LibraryRead) → map asCall (map reads l) ≡ map read (map asRead l)
+same-calls [] = refl
+same-calls (c ∷ l) = ap (λ (k : List Call). read (asRead c) ∷ k) (same-calls l)
+
+-- a card that the library wrote, read by the library's calls from a start at full width, automatic line feed off, at 300 or 203 dots, wherever
+-- each of them stops, prints exactly its letters at exactly their places
+pub library-reads-back : (r : Resolution) (w : LibraryWrite) → KeptWrite w → w .number ≡ 0
+    → (before : Printer) (m : List ℕ) (c : LibraryStart) (l : List LibraryRead)
+    → settingsIn (c .given) ≡ startOn r → Linked m (starts c ∷ map reads l) → readInput l ≡ cardBy w
+    → LibraryReadsBack r (givenLetters w) before c l
+unfolding joinedBytes laid
+library-reads-back r w k z before m c l s h q =
+    let p = startOf (settingsIn (c .given)) .printer in
+    let o = start-ours (settingsIn (c .given)) in
+    let a = as-readings p (c .left) l (h .0 .state) (on-registers p (c .left) o (h .0 .state) (map reads l) (h .1)) in
+    let f : answerOf (w .letters) (length (w .out)) ≡ CardAnswer.Written = written-zero _ (sym (k .answer) ∙ z) in
+    let b =
+    calls-read-back r (w .letters) (length (w .out)) before (asStart c) (map asRead l) f s (start-promise _ _ refl) (a .readings)
+    (sym (a .read) ∙ q ∙ card-written w k) in
+    record {
+      places = rw (same-calls l) (b .places);
+      texts = rw (a .output) (b .texts);
+      nothingElse = rw (a .output) (b .nothingElse);
+      waiting = ap (λ (x : List ℕ). getD x kindAt 0) (a .last) ∙ ap (λ (x : Waiting). pendingOf x .kind) (b .waiting);
+    }

@@ -10,6 +10,7 @@ use Rattle.printer.specs.declared.settings.StartSettings.{StartSettings}
 use Rattle.registers.specs.State.{registersOf}
 use Rattle.interpreter.specs.Calls.{runIn, leftIn, outputIn}
 use Rattle.slot.specs.Slot as slot
+use Rattle.writer.specs.Card as card
 
 -- the settings by their numbers: any but 0 switches automatic line feed on
 abbrev pub settingsIn : List ℕ → StartSettings
@@ -38,3 +39,9 @@ pub record EscpReadPromise
 pub record EscpSlotPromise (records : List ℕ) (a b : ℕ) (number : ℕ) (told : List ℕ) : Type 0 where
   pub answer : number ≡ slot.numberOf (slot.partOf a b records .answer)
   pub part : told ≡ slot.partOf a b records .start ∷ slot.partOf a b records .length ∷ []
+
+-- escp_write, of the letters and the output before, its answer's number, and the count of bytes written and the output after
+pub record EscpWritePromise (letters out : List ℕ) (number written : ℕ) (after : List ℕ) : Type 0 where
+  pub answer : number ≡ card.numberOf (card.answerOf letters (length out))
+  pub count : written ≡ length (card.writtenOf letters (length out))
+  pub output : after ≡ card.outputOf letters out

@@ -7,10 +7,16 @@ use Rattle.printer.specs.Tools.{Each, Bytes}
 use Rattle.printer.specs.Records.{encodedAll}
 use Rattle.printer.specs.Steps.{stateAfter, recordsOver}
 use Rattle.printer.specs.Calls.{StartCall, ReadCall, startOf, callOf, reportOf, numberOf}
-use Rattle.printer.specs.Demand3.{Call, started, read, Chain}
+use Rattle.printer.specs.Decoding.{decodedAll}
+use Rattle.printer.specs.Demand3.{Call, started, read, Chain, printedOver}
 use Rattle.printer.specs.declared.state.Printer.{Printer}
+use Rattle.printer.specs.declared.units.Resolution.{Resolution}
+use Rattle.registers.specs.Register.{kindAt}
 use Rattle.registers.specs.State.{registersOf, printerIn}
-use Rattle.ierbulosc.specs.Calls.{settingsIn, EscpStartPromise, EscpReadPromise}
+use Rattle.writer.specs.Card.{countOf}
+use Rattle.writer.specs.Reading.{lettersOf, textsIn, textOf, TextsAndFeeds, placedAs, placedLetter}
+use Rattle.writer.specs.declared.Letter.{Letter}
+use Rattle.ierbulosc.specs.Calls.{settingsIn, EscpStartPromise, EscpReadPromise, EscpWritePromise}
 
 -- Calls with what came back
 
@@ -135,3 +141,31 @@ GivenRest input (c ∷ l) = (c .input ≡ input) × GivenRest (drop (getD (c .co
 pub record LeavesRegisters (m : List ℕ) (l : List LibraryRead) (bytes : List ℕ) : Type 0 where
   pub registers : lastRegisters m l ≡ registersOf (stateAfter (printerIn m) bytes)
   pub output : joinedBytes (map reads l) ≡ encodedAll (recordsOver (printerIn m) bytes)
+
+-- Writing a card, and reading it back
+
+-- the letters and the output before; the answer's number, the count and the output after
+pub record LibraryWrite : Type 0 where
+  pub letters : List ℕ
+  pub out : List ℕ
+  pub number : ℕ
+  pub written : ℕ
+  pub after : List ℕ
+
+abbrev pub KeptWrite : LibraryWrite → Type 0
+KeptWrite w = EscpWritePromise (w .letters) (w .out) (w .number) (w .written) (w .after)
+
+-- the letters given, and the bytes written
+abbrev pub givenLetters : LibraryWrite → List Letter
+givenLetters w = lettersOf (w .letters) (countOf (w .letters))
+
+abbrev pub cardBy : LibraryWrite → List ℕ
+cardBy w = take (w .written) (w .after)
+
+-- a start, and reading calls: by demand 3's reckoning they print these letters at exactly these places, in this order, and no others; the bytes
+-- that they wrote are TX of these letters, and LN without a page turned, after ESC @'s LN 255; and nothing is waited for, which is kind 0
+pub record LibraryReadsBack (r : Resolution) (letters : List Letter) (before : Printer) (c : LibraryStart) (l : List LibraryRead) : Type 0 where
+  pub places : map placedAs (printedOver before (map asCall (starts c ∷ map reads l))) ≡ map placedLetter letters
+  pub texts : textsIn (decodedAll (joinedBytes (starts c ∷ map reads l))) ≡ map (textOf r) letters
+  pub nothingElse : TextsAndFeeds (decodedAll (joinedBytes (starts c ∷ map reads l)))
+  pub waiting : getD (lastRegisters (c .left) l) kindAt 0 ≡ 0

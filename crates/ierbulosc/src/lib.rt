@@ -2,7 +2,7 @@
 use printer::settings::StartSettings;
 use registers::COUNT;
 ghost use mathlib.Core.Path.{_≡_};
-ghost use Rattle.ierbulosc.specs.Calls.{settingsIn, EscpStartPromise, EscpReadPromise, EscpSlotPromise};
+ghost use Rattle.ierbulosc.specs.Calls.{settingsIn, EscpStartPromise, EscpReadPromise, EscpSlotPromise, EscpWritePromise};
 
 // How many numbers a start's settings are: the fields of `escp_settings`, in their order.
 pub const SETTINGS: usize = 3;
@@ -59,5 +59,16 @@ pub extern "C" fn escp_slot(records: &[u8], from: u16, to: u16, part: &mut [usiz
     let found = slot::part_of(records, from, to);
     let answer = found.answer;
     *part = [found.start, found.length];
+    answer.number()
+}
+
+// Writes the letters of a list, five bytes each (the byte, across (2), down (2), low byte first), as ESC/P that the reader places there.
+#[no_mangle]
+pub extern "C" fn escp_write(letters: &[u8], out: &mut [u8], written: &mut usize) -> u8
+    ensures { λ r. ⌜ EscpWritePromise (now (letters .entry)) (now (out .entry)) r (now (written .exit)) (now (out .exit)) ⌝ }
+{
+    let card = writer::write(letters, out);
+    let answer = card.answer;
+    *written = card.written;
     answer.number()
 }

@@ -1,7 +1,9 @@
 //! Measures the proved reader and both plain ones side by side on equal
-//! inputs: times, instructions, and the proved reader's stack; and what it
-//! costs to ask a list of records what stands in a range of columns.
+//! inputs: times, instructions, and the proved reader's stack; what it costs
+//! to ask a list of records what stands in a range of columns; and what it
+//! costs to write a card, by the library and by the plain writer.
 
+mod cards;
 mod counts;
 mod readers;
 mod slots;
@@ -16,19 +18,23 @@ use std::process::ExitCode;
 const HELP: &str = "\
 speed: measures the proved reader, the plain one byte by byte, and the plain one in runs
 
-    speed                  all four below, as Markdown tables
+    speed                  all five below, as Markdown tables
     speed --times          megabytes in a second, best of several alternating runs, and ratios of times
     speed --instructions   instructions for a byte, counted by callgrind, and ratios
     speed --stack          bytes of stack of the calls of the proved reader
     speed --slots          instructions and nanoseconds of a call that asks what stands in a range
                            of columns, by how far it has to look
-    speed --watch FILE     fails where the proved reader takes over a tenth more instructions for a
-                           byte, or for such a call, than the file's limit, or where such a call
-                           takes more in a longer list with the answer among the newest ten, or
-                           where a reading call takes over 512 bytes of stack
+    speed --cards          instructions and letters in a second of writing a card, beside the
+                           plain writer
+    speed --watch FILE     fails where the library takes over a tenth more instructions for a byte,
+                           for what stands in a range of columns, or for a letter written, than the
+                           file's limit, or where such a question takes more in a longer list with
+                           the answer among the newest ten; or where a reading call takes
+                           over 512 bytes of stack
     speed --write FILE     writes what it takes now into the file, as the limits
     speed --runs READER..  one run of each reader on each input, to be counted
-    speed --slot-calls     one such call on each list, to be counted
+    speed --slot-calls     one such question of each list, to be counted
+    speed --card-calls     each card written once by each writer, to be counted
     speed --help           this text
 
 READER is proved, plain or runs.
@@ -55,7 +61,9 @@ fn main() -> ExitCode {
         ["--instructions"] => counts::print(),
         ["--stack"] => stack::print(),
         ["--slots"] => slots::print(),
+        ["--cards"] => cards::print(),
         ["--slot-calls"] => slots::run(),
+        ["--card-calls"] => cards::run(),
         ["--watch", file] => watch::watch(file),
         ["--write", file] => watch::write(file),
         ["--runs", ref names @ ..] if names.iter().all(|name| Reader::named(name).is_some()) => {
@@ -87,5 +95,7 @@ fn all() -> Result<(), Problem> {
     println!();
     stack::print()?;
     println!();
-    slots::print()
+    slots::print()?;
+    println!();
+    cards::print()
 }

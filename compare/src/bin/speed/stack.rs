@@ -4,10 +4,10 @@
 //! links); bound at the first call it would show the loader's stack too.
 
 use crate::readers::{PIECES, RESOLUTIONS};
-use crate::{slots, Problem};
+use crate::{cards, slots, Problem};
 use compare::generate;
 use compare::random::Random;
-use ierbulosc::interface::{escp_read, escp_slot, escp_start, Counts, Part};
+use ierbulosc::interface::{escp_read, escp_slot, escp_start, escp_write, Counts, Part};
 use ierbulosc::{Settings, State, ROOM};
 use std::arch::asm;
 use std::ffi::c_void;
@@ -26,7 +26,7 @@ struct Call<'a> {
     kind: Kind,
     state: State,
     settings: Settings,
-    /// The input, or the list of records.
+    /// The input, or the list of records or letters.
     input: &'a [u8],
     out: &'a mut [u8],
 }
@@ -37,22 +37,24 @@ enum Kind {
     Start,
     Read,
     Slot,
+    Write,
 }
 
 /// Prints the table.
 pub fn print() -> Result<(), Problem> {
-    let [start, read, slot] = measure();
+    let [start, read, slot, write] = measure();
     println!("| Call of the proved reader | Stack below the caller, bytes |");
     println!("|---|---:|");
     println!("| start | {start} |");
     println!("| reading call, the deepest | {read} |");
     println!("| what stands in a range of columns, the deepest | {slot} |");
+    println!("| writing a card, the deepest | {write} |");
     Ok(())
 }
 
 /// Fails where a reading call goes deeper than it may; else says how deep.
 pub fn watch() -> Result<usize, Problem> {
-    let [_, read, _] = measure();
+    let [_, read, ..] = measure();
     match read <= MOST {
         true => Ok(read),
         false => Err(format!(
@@ -62,9 +64,10 @@ pub fn watch() -> Result<usize, Problem> {
 }
 
 /// The depth of a start, of the deepest reading call on inputs of every
-/// command, with pieces of every length that is measured, and of the deepest
-/// question on the lists that are measured.
-fn measure() -> [usize; 3] {
+/// command, with pieces of every length that is measured, of the deepest
+/// question on the lists that are measured, and of the deepest writing of the
+/// cards that are.
+fn measure() -> [usize; 4] {
     let mut stack = vec![PATTERN; STACK];
     let mut call = Call {
         kind: Kind::Nothing,
@@ -91,7 +94,8 @@ fn measure() -> [usize; 3] {
         }
     }
     let slot = deepest_question(&mut stack);
-    [start, deepest, slot].map(|depth| depth - caller)
+    let write = deepest_writing(&mut stack);
+    [start, deepest, slot, write].map(|depth| depth - caller)
 }
 
 /// The depth of the deepest reading call on an input in pieces.
@@ -128,6 +132,22 @@ fn deepest_question(stack: &mut [u8]) -> usize {
         depth(stack, &mut call)
     });
     depths.max().unwrap_or(0)
+}
+
+/// The depth of the deepest writing of a card.
+fn deepest_writing(stack: &mut [u8]) -> usize {
+    let depths = cards::CARDS.map(|card| {
+        let (letters, mut out) = (card.bytes(), card.room());
+        let mut call = Call {
+            kind: Kind::Write,
+            state: State::start(&Settings::default()).1,
+            settings: Settings::default(),
+            input: &letters,
+            out: &mut out,
+        };
+        depth(stack, &mut call)
+    });
+    depths.into_iter().max().unwrap_or(0)
 }
 
 /// How deep a call goes into the stack, in whole words of it.
@@ -173,6 +193,13 @@ extern "C" fn perform(call: *mut c_void) {
             Kind::Nothing => 0,
             Kind::Start => escp_start(&mut call.state, &call.settings),
             Kind::Slot => escp_slot(call.input.as_ptr(), call.input.len(), 0, 0, &mut part),
+            Kind::Write => escp_write(
+                call.input.as_ptr(),
+                call.input.len(),
+                call.out.as_mut_ptr(),
+                call.out.len(),
+                &mut counts.written,
+            ),
             Kind::Read => escp_read(
                 &mut call.state,
                 call.input.as_ptr(),

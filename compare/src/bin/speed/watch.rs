@@ -1,17 +1,19 @@
-//! The proved reader's instructions held to written limits, for a byte and for
-//! a call that asks what stands in a range of columns; and its stack to its own.
+//! The library's instructions held to written limits: for a byte read, for a
+//! call that asks what stands in a range of columns, and for a letter written;
+//! and its stack to its own.
 
 use crate::counts::count;
 use crate::readers::{subjects, Reader, Subject};
-use crate::{slots, stack, Problem};
+use crate::{cards, slots, stack, Problem};
 use std::fmt::Write;
 
 /// How far above its limit a count may be.
 const TOLERATED: f64 = 1.10;
 
 const HEAD: &str = "\
-# The proved reader's instructions, as callgrind counts them. For a byte: input, dots, bytes of a piece, instructions. For
-# a call that asks what stands in a range of columns: slot, list, records, instructions.
+# The proved library's instructions, as callgrind counts them. For a byte: input, dots, bytes of a piece, instructions. For
+# a call that asks what stands in a range of columns: slot, list, records, instructions. For a letter of a card: write,
+# card, letters, instructions.
 # The gate fails where one is exceeded by over a tenth. Written by: compare/watch --write
 ";
 
@@ -23,7 +25,9 @@ fn counts() -> Result<Vec<(String, f64)>, Problem> {
     slots::no_longer_search(&counts)?;
     let lists = slots::lists();
     let calls = lists.iter().map(slots::List::name).zip(counts);
-    Ok(bytes.chain(calls).collect())
+    let letters = cards::CARDS.iter().map(cards::Card::name);
+    let letters = letters.zip(cards::count()?);
+    Ok(bytes.chain(calls).chain(letters).collect())
 }
 
 /// Writes the present counts.
@@ -50,14 +54,16 @@ pub fn watch(file: &str) -> Result<(), Problem> {
     if !exceeded.is_empty() {
         return Err(format!(
             "over a tenth more instructions than the limit of {file}, for a byte (input, dots, \
-             bytes of a piece) or a call (slot, list, records):{exceeded}"
+             bytes of a piece), a call (slot, list, records) or a letter (write, card, \
+             letters):{exceeded}"
         ));
     }
     let deep = stack::watch()?;
-    let (bytes, calls) = (subjects().len(), slots::lists().len());
+    let (bytes, calls, cards) = (subjects().len(), slots::lists().len(), cards::CARDS.len());
     println!(
-        "speed: instructions within a tenth of their limits, for a byte on all {bytes} inputs and \
-         for a slot in all {calls} lists; the answer among the newest ten costs no more in longer ones; {deep} bytes of stack below a reading call"
+        "speed: instructions within a tenth of their limits, for a byte on all {bytes} inputs, for a \
+         slot in all {calls} lists and for a letter of all {cards} cards; the answer among the newest \
+         ten costs no more in longer lists; {deep} bytes of stack below a reading call"
     );
     Ok(())
 }

@@ -1,0 +1,13 @@
+pub mod Laying
+pub mod Faults
+pub mod Refusals
+pub mod GoodLetters
+pub mod Feeds
+pub mod Places
+pub mod Cards
+pub mod Answers
+pub mod Runs
+pub mod Steps
+pub mod ReadBack
+pub mod ByCalls
+pub mod Theorems
