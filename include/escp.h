@@ -49,10 +49,12 @@ enum {
 enum {
     ESCP_RECORD_SIZE = 14,            /* the bytes of a record */
     ESCP_ROOM = 2 * ESCP_RECORD_SIZE, /* must be left in the output to read a byte, which writes at most 2 records */
-    ESCP_REGISTERS = 140,             /* the numbers of a state */
+    ESCP_REGISTERS = 243,             /* the numbers of a state */
     ESCP_TAB_STOPS = 32,              /* the room of a list of tab stops */
     ESCP_COLUMNS = 32,                /* the most horizontal tab stops */
-    ESCP_LINES = 16                   /* the most vertical tab stops */
+    ESCP_LINES = 16,                  /* the most vertical tab stops of a channel */
+    ESCP_CHANNELS = 8,                /* the vertical channels, 0 to 7 */
+    ESCP_CHANNEL_STOPS = 128          /* the places of their stops, sixteen a channel */
 };
 
 /*
@@ -90,26 +92,38 @@ enum {
     ESCP_SECOND_BYTE = 1,     /* an escape's second byte */
     ESCP_FIRST_ARGUMENT = 2,  /* the first argument of an escape, or its only one; the third byte of ESC i; the mode of ESC * */
     ESCP_SECOND_ARGUMENT = 3, /* the second argument; that of ESC C after 0; that of ESC i after "a"; the low byte of ESC * */
-    ESCP_STOP_LIST = 4,       /* a byte of a tab stop list */
+    ESCP_STOP_LIST = 4,       /* a byte of a tab stop list that sets stops */
     ESCP_IMAGE_DATA = 5,      /* image data */
-    ESCP_THIRD_ARGUMENT = 6   /* the third argument: the high byte of ESC * */
+    ESCP_THIRD_ARGUMENT = 6,  /* the third argument: the high byte of ESC * */
+    ESCP_DROPPED_LIST = 7     /* a byte of the list of ESC b with a channel above 7 */
 };
+
+/*
+ * The vertical channels. Channel m has the sixteen places from 16 m on; its count is 0 if it was never set, else one more
+ * than the stops that it holds, at most 17. These are distances from the top, from 1 to 79199, and ascend strictly; places
+ * past them are not looked at, and may be any numbers.
+ */
+typedef struct escp_channels {
+    uint32_t counts[ESCP_CHANNELS];
+    uint32_t stops[ESCP_CHANNEL_STOPS];
+} escp_channels;
 
 typedef struct escp_state {
     /*
      * What is waited for. The command is an escape's second byte: of kind 2 one that takes arguments, as 41h for ESC A,
      * or i, which takes a third byte; of kind 3 one that takes two ($, \, K, L, Y or Z), or C, whose first argument is
      * then 0, or i, whose third byte is then 61h, "a", or *, whose first argument is then a mode that is listed; of kind 4
-     * B or D; of kind 6 *. Kind 5 has none. A number that the kind does not use is 0.
+     * D, or B for a vertical list, of ESC B or ESC b; of kind 6 *. Kinds 5 and 7 have none. A number that the kind does not
+     * use is 0.
      *
      * The modes of images, by number: 0, 1, 2, 3, 4 and 6 have one byte a column, 60, 30, 30, 15, 45 and 40 units wide; 32,
      * 33, 38, 39 and 40 have three, 60, 30, 40, 20 and 10 units wide. The data of ESC K, L, Y and Z are modes 0, 1, 2 and 3.
      */
-    uint32_t kind;          /* ESCP_NOTHING to ESCP_THIRD_ARGUMENT */
+    uint32_t kind;          /* ESCP_NOTHING to ESCP_DROPPED_LIST */
     uint32_t command;       /* kinds 2, 3, 4 and 6 */
     uint32_t argument;      /* kinds 3 and 6: the last that came, 0 to 255, of C 0, of i 61h, of * in kind 3 the mode's number;
-                               kind 4: the list byte before, 0 at the beginning */
-    uint32_t image_mode;    /* kinds 5 and 6: the mode's number */
+                               kinds 4 and 7: the list byte before, 0 at the beginning */
+    uint32_t image_mode;    /* kinds 5 and 6: the mode's number; kind 4, B: the channel that the list sets, 0 to 7 */
     uint32_t image_byte;    /* kind 5: which byte of its column comes next: 1 to 3 in modes of three bytes, 1 in the others */
     uint32_t image_columns; /* kind 5: the image columns left, the begun one included, 1 to 65535 */
 
@@ -161,14 +175,14 @@ typedef struct escp_state {
     uint32_t column_width; /* the width that stops and margins count in: 360 if proportional, else the advance */
 
     /*
-     * Tab stops. The gathered ones, horizontal of ESC D or vertical of ESC B, are looked at only while such a list is
-     * waited for, and may be any numbers else; the last of them is then not above the list byte before, or for ESC B
-     * that byte times the line amount.
+     * Tab stops. The gathered ones, horizontal of ESC D or vertical of ESC B and ESC b, are looked at only while such a list
+     * is waited for (kind 4), and may be any numbers else; the last of them is then not above the list byte before, or for
+     * vertical ones that byte times the line amount.
      */
-    uint32_t lines_set;  /* flag: vertical stops were set, though perhaps to none; 0: there are none */
-    escp_stops columns;  /* horizontal, in force */
-    escp_stops lines;    /* vertical, in force */
-    escp_stops gathered; /* of a list that has not ended */
+    uint32_t chosen;        /* the channel that VT uses, 0 to 7 */
+    escp_stops columns;     /* horizontal, in force */
+    escp_stops gathered;    /* of a list that has not ended */
+    escp_channels channels; /* vertical, in force */
 } escp_state;
 
 /* How many bytes of input a call read, and how many bytes of output it wrote. */

@@ -38,13 +38,14 @@ fn whole_reading(random: &mut Random) -> Call {
 
 /// Registers of any sort; some are accepted, many are not.
 pub fn arbitrary(random: &mut Random) -> Registers {
-    match random.weighted(&[46, 23, 5, 12, 6, 7, 1]) {
+    match random.weighted(&[46, 23, 5, 12, 6, 4, 7, 1]) {
         0 => of_plain(random, states::arbitrary),
         1 => changed(random),
         2 => disagreeing(random),
         3 => with_any_waiting(random),
         4 => with_any_image(random),
-        5 => with_unseen_parts(random),
+        5 => with_any_list(random),
+        6 => with_unseen_parts(random),
         _ => any_numbers(random),
     }
 }
@@ -84,16 +85,16 @@ fn changed(random: &mut Random) -> Registers {
 fn change(random: &mut Random, state: &mut Registers) {
     let mut fields = fields(state);
     if random.percent(80) {
-        fields.retain(|field| !field.name.is_slot());
+        fields.retain(|field| !field.name.is_stop());
     }
     let at = random.below(fields.len() as u64) as usize;
     *fields[at].number = some_number(random, &fields[at]);
 }
 
 /// Numbers beside which a bound lies, but for the widest paper.
-const LIMITS: [u32; 24] = [
-    3, 4, 5, 6, 13, 14, 16, 17, 32, 33, 64, 127, 128, 255, 256, 3_599, 3_600, 5_100, 5_101, 7_199,
-    7_200, 79_199, 79_200, 79_201,
+const LIMITS: [u32; 27] = [
+    3, 4, 5, 6, 7, 8, 13, 14, 16, 17, 18, 32, 33, 64, 127, 128, 255, 256, 3_599, 3_600, 5_100,
+    5_101, 7_199, 7_200, 79_199, 79_200, 79_201,
 ];
 
 /// A number beside the register's own, a small one, a great one or any; or its
@@ -145,7 +146,7 @@ fn with_any_waiting(random: &mut Random) -> Registers {
         0 => random.pick(b"\0\0*"),
         1 => random.byte(),
         2 => b'C',
-        3 => random.pick(b"BD"),
+        3 => random.pick(b"BDb"),
         4 => random.pick(b"KLYZ"),
         5 => random.pick(TWO_ARGUMENTS),
         6 => random.pick(b"@EJM[O&*\x0F\x1B"),
@@ -159,11 +160,11 @@ fn with_any_waiting(random: &mut Random) -> Registers {
     };
     let above = random.pick(&[0, 0, 0, 0, 0, 0, 0, 1 << 8, 1 << 16]);
     let (image_mode, image_byte) = match random.below(4) {
-        0 => (random.pick(&[0, 1, 39]), random.pick(&[0, 1, 2, 3])),
+        0 => (random.pick(&[0, 1, 7, 8, 39]), random.pick(&[0, 1, 2, 3])),
         _ => (0, 0),
     };
     Registers {
-        kind: random.pick(&[0, 1, 2, 2, 3, 3, 4, 4, 5, 5, 6, 7, 8, 255, 256, 258]),
+        kind: random.pick(&[0, 1, 2, 2, 3, 3, 4, 4, 5, 5, 6, 7, 7, 8, 255, 256, 258]),
         command: u32::from(command) + above,
         argument,
         image_mode,
@@ -174,9 +175,9 @@ fn with_any_waiting(random: &mut Random) -> Registers {
 }
 
 /// Numbers that tell in one of the registers of what is waited for.
-const TELLING: [u32; 24] = [
-    0, 1, 2, 3, 4, 5, 6, 7, 31, 32, 33, 34, 38, 39, 40, 41, 0x2A, 0x4B, 0x69, 72, 255, 256, 65_535,
-    65_536,
+const TELLING: [u32; 28] = [
+    0, 1, 2, 3, 4, 5, 6, 7, 8, 31, 32, 33, 34, 38, 39, 40, 41, 0x2A, 0x42, 0x44, 0x4B, 0x62, 0x69,
+    72, 255, 256, 65_535, 65_536,
 ];
 
 /// ESC * or image data waited for, in a mode that may not be listed, with a
@@ -193,6 +194,30 @@ fn with_any_image(random: &mut Random) -> Registers {
         2 => [ierbulosc::THIRD_ARGUMENT, star, low, mode, 0, 0],
         _ => [ierbulosc::IMAGE_DATA, 0, 0, mode, byte, columns],
     };
+    set_some(random, &mut waiting);
+    waits(accepted(random), waiting)
+}
+
+/// A list of stops waited for, one that is gathered or one that is dropped, of a
+/// channel or of none, with a number or two set to others.
+fn with_any_list(random: &mut Random) -> Registers {
+    let mut state = accepted(random);
+    if !gathers(&state) || random.flag() {
+        state.gathered.count = random.pick(&[0, 0, 0, 1, 16, 17]);
+    }
+    let last = u32::from(random.byte());
+    let channel = u32::from(states::a_channel_number(random));
+    let mut waiting: [u32; 6] = match random.below(4) {
+        0 => [ierbulosc::STOP_LIST, b'D'.into(), last, 0, 0, 0],
+        1 => [ierbulosc::DROPPED_LIST, 0, last, 0, 0, 0],
+        _ => [ierbulosc::STOP_LIST, b'B'.into(), last, channel, 0, 0],
+    };
+    set_some(random, &mut waiting);
+    waits(state, waiting)
+}
+
+/// Sets up to two of the numbers to others.
+fn set_some(random: &mut Random, waiting: &mut [u32; 6]) {
     for _ in 0..random.pick(&[0, 1, 1, 2]) {
         let number = &mut waiting[random.below(6) as usize];
         *number = match random.below(4) {
@@ -200,7 +225,11 @@ fn with_any_image(random: &mut Random) -> Registers {
             _ => random.pick(&TELLING),
         };
     }
-    let mut registers = accepted(random).registers();
+}
+
+/// The registers with these for what is waited for.
+fn waits(state: Registers, waiting: [u32; 6]) -> Registers {
+    let mut registers = state.registers();
     registers[..6].copy_from_slice(&waiting);
     Registers::from_registers(registers)
 }

@@ -1,9 +1,9 @@
 //! The registers of a state by name, to look at, compare and set.
 
-use ierbulosc::{State, Stops, REGISTERS};
+use ierbulosc::{Channels, State, Stops, REGISTERS};
 use std::fmt;
 
-/// A register's name, and its number in a list of stops.
+/// A register's name, and its number in a list.
 #[derive(Clone, Copy, PartialEq, Eq, Debug)]
 pub struct Name {
     path: &'static str,
@@ -12,11 +12,11 @@ pub struct Name {
 
 impl Name {
     /// Whether it is one stop of a list.
-    pub fn is_slot(&self) -> bool {
-        self.slot.is_some()
+    pub fn is_stop(&self) -> bool {
+        self.path.ends_with(".stops")
     }
 
-    /// Which stop of this list it is, if it is one.
+    /// Which number of this list it is, if it is one.
     pub fn slot_of(&self, path: &str) -> Option<usize> {
         self.slot.filter(|_| self.path == path)
     }
@@ -48,11 +48,13 @@ pub fn fields(state: &mut State) -> Vec<Field<'_>> {
     let mut all = Vec::with_capacity(REGISTERS);
     macro_rules! named {
         ($($name:ident)*) => {
-            let State { $($name,)* columns, lines, gathered } = state;
+            let State { $($name,)* columns, gathered, channels } = state;
             $(all.push(named(stringify!($name), $name));)*
             of_list(["columns.count", "columns.stops"], columns, &mut all);
-            of_list(["lines.count", "lines.stops"], lines, &mut all);
             of_list(["gathered.count", "gathered.stops"], gathered, &mut all);
+            let Channels { counts, stops } = channels;
+            numbered("channels.counts", counts, &mut all);
+            numbered("channels.stops", stops, &mut all);
         };
     }
     named! {
@@ -62,7 +64,7 @@ pub fn fields(state: &mut State) -> Vec<Field<'_>> {
         pitch spacing wide wide_once reduced proportional
         bold double_strike italic underline superscript subscript
         font country outline double_height italic_table download
-        draft upper_prints style advance column_width lines_set
+        draft upper_prints style advance column_width chosen
     }
     all
 }
@@ -78,7 +80,12 @@ fn of_list<'a>(paths: [&'static str; 2], list: &'a mut Stops, to: &mut Vec<Field
     let Stops { count, stops } = list;
     let [count_path, path] = paths;
     to.push(named(count_path, count));
-    to.extend(stops.iter_mut().enumerate().map(|(slot, number)| Field {
+    numbered(path, stops, to);
+}
+
+/// The registers of a list, each with its number in it.
+fn numbered<'a>(path: &'static str, list: &'a mut [u32], to: &mut Vec<Field<'a>>) {
+    to.extend(list.iter_mut().enumerate().map(|(slot, number)| Field {
         name: Name {
             path,
             slot: Some(slot),

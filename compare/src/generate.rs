@@ -8,7 +8,7 @@ const SI: u8 = 0x0F;
 const DC4: u8 = 0x14;
 const CONTROLS: [u8; 10] = [8, 9, 10, 11, 12, 13, 14, 15, 18, 20];
 const PLAIN_ESCAPES: &[u8] = b"022OPPMMggEFGH4455T6677\x0E\x0F\x0E\x0F";
-const ONE_ARGUMENT: &[u8] = b"33A++JJJNNllQQpSxWWw-%tRqk  !!";
+const ONE_ARGUMENT: &[u8] = b"33A++JJJNNllQQpSxWWw-%tRqk  !!/";
 
 /// Numbers beside which a rule changes, for any one-byte argument.
 const EDGES: [u8; 26] = [
@@ -43,6 +43,10 @@ const OTHER_MODES: [u8; 20] = [
     5, 7, 8, 31, 34, 35, 36, 37, 41, 64, 71, 72, 73, 0x30, 0x80, 0xA0, 0xA7, 255, ESC, b'@',
 ];
 
+/// Vertical channels, and numbers beside them, far from them, or as a digit.
+pub const CHANNELS: [u8; 8] = [0, 1, 2, 3, 4, 5, 6, 7];
+pub const NO_CHANNELS: [u8; 6] = [8, 9, 16, b'0', b'7', 255];
+
 /// How many columns fit in 360 units, in one mode or another.
 const FIT_IN_A_LETTER: [u16; 7] = [6, 8, 9, 12, 18, 24, 36];
 
@@ -57,7 +61,7 @@ pub fn input(random: &mut Random, phrases: u64) -> Vec<u8> {
 
 /// Adds one phrase: a run of letters, a command, or a telling group of them.
 pub fn phrase(random: &mut Random, to: &mut Vec<u8>) {
-    match random.weighted(&[20, 22, 12, 22, 10, 8, 6, 4, 2, 3, 2, 2, 4, 4, 2, 1]) {
+    match random.weighted(&[20, 22, 12, 22, 10, 8, 6, 4, 2, 3, 2, 2, 4, 4, 2, 4, 1]) {
         0 => letters(random, to),
         1 => to.push(random.pick(&CONTROLS)),
         2 => to.extend([ESC, random.pick(PLAIN_ESCAPES)]),
@@ -73,6 +77,7 @@ pub fn phrase(random: &mut Random, to: &mut Vec<u8>) {
         12 => mode_or_status(random, to),
         13 => image_mode(random, to),
         14 => image_past_the_margin(random, to),
+        15 => channels(random, to),
         _ => to.extend([ESC, b'@']),
     }
 }
@@ -128,6 +133,7 @@ fn usual_argument(random: &mut Random, command: u8) -> u8 {
         b'q' => random.pick(&[0, 1, 2, 3, 4, 0x30, 0x33]),
         b' ' => random.pick(&[0, 0, 0, 1, 2, 9, 126, 127, 128, 129, 255]),
         b'!' => format_argument(random),
+        b'/' => channel(random),
         _ => random.byte(),
     }
 }
@@ -258,9 +264,52 @@ fn image_past_the_margin(random: &mut Random, to: &mut Vec<u8>) {
     }
 }
 
-/// ESC D or ESC B with 0 to 40 stops and some ending.
+/// ESC D or ESC B and a list.
 fn stop_list(random: &mut Random, to: &mut Vec<u8>) {
     to.extend([ESC, random.pick(b"DDB")]);
+    list(random, to);
+}
+
+/// Vertical channels set, chosen and used, most of them one and the same; now
+/// and then a command is cut short, so that what comes next is taken for the
+/// rest.
+fn channels(random: &mut Random, to: &mut Vec<u8>) {
+    let same = channel(random);
+    for _ in 0..random.between(1, 5) {
+        let channel = match random.percent(70) {
+            true => same,
+            false => channel(random),
+        };
+        match random.below(12) {
+            0..=4 => {
+                to.extend([ESC, b'b', channel]);
+                list(random, to);
+            }
+            5..=8 => to.extend([ESC, b'/', channel]),
+            9 => {
+                to.extend([ESC, b'B']);
+                list(random, to);
+            }
+            10 => to.extend([random.pick(&[ESC, 0x9B]), random.pick(b"bb/")]),
+            _ => to.extend([random.pick(&[ESC, 0x9B]), b'b', channel]),
+        }
+        for _ in 0..random.below(4) {
+            to.push(random.pick(&[11, 11, 11, 10, b'V']));
+        }
+    }
+}
+
+/// A channel, or a number that is none.
+fn channel(random: &mut Random) -> u8 {
+    match random.below(10) {
+        0 | 1 => random.pick(&NO_CHANNELS),
+        2 => random.byte(),
+        _ => random.pick(&CHANNELS),
+    }
+}
+
+/// A list of 0 to 40 stops with some ending.
+fn list(random: &mut Random, to: &mut Vec<u8>) {
     let stops = match random.below(8) {
         0 => 0,
         1 => random.pick(&[15, 16, 17, 31, 32, 33, 40]),
@@ -393,7 +442,7 @@ fn upper_codes(random: &mut Random, to: &mut Vec<u8>) {
     for _ in 0..random.between(1, 5) {
         match random.below(6) {
             0 => to.push(random.between(0x80, 0x9F) as u8),
-            1 => to.extend([0x9B, random.pick(b"E4\x0F\x8F6ii**")]),
+            1 => to.extend([0x9B, random.pick(b"E4\x0F\x8F6ii**b/")]),
             2 => to.extend([ESC, random.between(0x80, 0x9F) as u8]),
             _ => to.push(0x80 + random.pick(&CONTROLS)),
         }

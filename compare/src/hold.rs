@@ -2,7 +2,7 @@
 
 use crate::calls::{self, Call, FILL};
 use crate::reckoning::{expected, Printed, Record};
-use crate::registers;
+use crate::registers::{self, without_old_places};
 use crate::runs::{otherwise, InRuns};
 use crate::states;
 use ierbulosc::{Settings, State as Registers, RECORD_SIZE};
@@ -222,8 +222,9 @@ impl Pair {
 
     /// Whether a reading call came back the same: numbers, the whole output
     /// and the state. A refused state is the same if every register is as it
-    /// came, and so is any after a start; of a made-up state those registers
-    /// count that the rules look at.
+    /// came, and so is any after a start, but for the places of channels that
+    /// were never set; of a made-up state those registers count that the rules
+    /// look at.
     fn same(&self, plain: &Came, proved: &Came) -> bool {
         let numbers = |came: &Came| (came.answer, came.read, came.written);
         if numbers(plain) != numbers(proved) || plain.out != proved.out {
@@ -238,7 +239,7 @@ impl Pair {
         let as_plain = registers::plain(&self.proved).map(|state| states::normal(&state));
         registers::normal(expected) == registers::normal(&self.proved)
             && as_plain == self.plain.as_ref().map(states::normal)
-            && (!self.started || *expected == self.proved)
+            && (!self.started || without_old_places(expected) == without_old_places(&self.proved))
     }
 }
 

@@ -3,7 +3,9 @@
 use crate::random::Random;
 
 /// The names of the inputs.
-pub const NAMES: [&str; 6] = ["letters", "text", "styled", "images", "sketches", "card"];
+pub const NAMES: [&str; 7] = [
+    "letters", "text", "styled", "images", "sketches", "card", "forms",
+];
 
 /// A slot card: two lines with seven tab stops.
 const CARD: &[u8] = b"\x1BD\x0A\x14\x1E\x28\x32\x3C\x46\x00\
@@ -19,6 +21,7 @@ pub fn input(name: &str, length: usize) -> Option<Vec<u8>> {
         "images" => line_of_images,
         "sketches" => line_of_sketches,
         "card" => |_, to| to.extend(CARD),
+        "forms" => form,
         _ => return None,
     };
     let mut random = Random::new(300);
@@ -80,6 +83,23 @@ fn line_of_styles(random: &mut Random, to: &mut Vec<u8>) {
         letters(random, count, to);
     }
     to.extend(b"\r\n");
+}
+
+/// A form: all eight vertical channels with their sixteen stops, then fields,
+/// each in a channel of its own, and FF.
+fn form(random: &mut Random, to: &mut Vec<u8>) {
+    to.extend(b"\x1B@");
+    for channel in 0..8 {
+        to.extend([0x1B, b'b', channel]);
+        to.extend((1..=16).map(|stop| 3 * stop + channel));
+        to.push(0);
+    }
+    for _ in 0..random.between(20, 40) {
+        to.extend([0x1B, b'/', random.below(8) as u8, 0x0B]);
+        let count = random.between(2, 9);
+        letters(random, count, to);
+    }
+    to.push(0x0C);
 }
 
 /// One image of up to the width of the paper, CR and a feed of 24/180 inch.

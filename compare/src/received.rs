@@ -5,7 +5,10 @@
 #[derive(Clone, Copy, PartialEq, Eq, Debug)]
 pub enum List {
     Horizontal,
-    Vertical,
+    /// Of this channel, 0 to 7.
+    Vertical(u8),
+    /// Of no channel: it sets nothing.
+    Dropped,
 }
 
 /// What a byte completes.
@@ -93,7 +96,7 @@ impl Receiving {
     fn escape(&mut self, second: u8) -> Option<Received> {
         match second {
             b'D' => *self = Receiving::List(List::Horizontal, 0),
-            b'B' => *self = Receiving::List(List::Vertical, 0),
+            b'B' => *self = Receiving::List(List::Vertical(0), 0),
             _ if wanted(second, &[]) > 0 => *self = Receiving::Arguments(second, Vec::new()),
             _ => return Some(Received::Escape(second, Vec::new())),
         }
@@ -108,7 +111,18 @@ impl Receiving {
         if let Some((column, columns @ 1..)) = image(second, &arguments) {
             *self = Receiving::Image(column, 1, columns);
         }
+        if let (b'b', [channel]) = (second, &arguments[..]) {
+            *self = Receiving::List(list_of(*channel), 0);
+        }
         Some(Received::Escape(second, arguments))
+    }
+}
+
+/// The list that ESC b opens.
+fn list_of(channel: u8) -> List {
+    match channel {
+        0..=7 => List::Vertical(channel),
+        _ => List::Dropped,
     }
 }
 
@@ -147,6 +161,6 @@ fn wanted(second: u8, so_far: &[u8]) -> usize {
         (b'*', Some(&mode)) if listed(mode).is_none() => 1,
         (b'*', _) => 3,
         _ if b"$\\KLYZ".contains(&second) => 2,
-        _ => usize::from(b"3A+JNlQpSxWw-%tRqk !".contains(&second)),
+        _ => usize::from(b"3A+JNlQpSxWw-%tRqk !/b".contains(&second)),
     }
 }

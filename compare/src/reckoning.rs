@@ -256,7 +256,7 @@ impl Reckoning {
     fn vertical_tab(&mut self, learnt: &Learnt) {
         self.settings.so = false;
         let here = self.down.at();
-        let Some(rows) = &self.settings.rows else {
+        let Some(rows) = self.settings.rows() else {
             return self.line_feed(learnt);
         };
         if rows.is_empty() {
@@ -302,7 +302,7 @@ impl Reckoning {
             }
             b'\\' => self.across.moves += self.signed_move(number(0) + 256 * number(1)),
             // Done, they set nothing and move nothing.
-            b'i' | b'*' => {}
+            b'i' | b'*' | b'b' => {}
             _ => self.settings.escape(second, arguments),
         }
     }

@@ -2,8 +2,9 @@
 //! registers that the library's interface shows.
 
 use crate::states::more_arguments;
-use ierbulosc::{State as Registers, Stops as RegisterStops, REGISTERS};
-use plain_reader::{State, Stops, Waiting};
+use ierbulosc::{Channels, State as Registers, Stops as RegisterStops, CHANNELS, LINES, REGISTERS};
+use plain_reader::{ChannelStops, State, Stops, Waiting};
+use std::array::from_fn;
 
 /// The plain state that registers stand for. None if one has a number that the
 /// interface does not give it and the plain state has no place for: a flag
@@ -46,8 +47,8 @@ pub fn plain(registers: &Registers) -> Option<State> {
         across: r.across,
         down: r.down,
         horizontal: plain_list(&r.columns),
-        vertical: plain_list(&r.lines),
-        vertical_never_set: !flag(r.lines_set)?,
+        channels: from_fn(|channel| plain_channel(&r.channels, channel)),
+        chosen: byte(r.chosen)?,
         gathered: plain_list(&r.gathered),
         waiting: plain_waiting(r)?,
     })
@@ -72,6 +73,15 @@ fn plain_list(list: &RegisterStops) -> Stops {
     }
 }
 
+/// The stops of a channel; none if its count says that it was never set.
+fn plain_channel(channels: &Channels, channel: usize) -> Option<ChannelStops> {
+    let count = channels.counts[channel].checked_sub(1)?;
+    Some(ChannelStops {
+        stops: from_fn(|slot| channels.stops[LINES * channel + slot]),
+        count: count as usize,
+    })
+}
+
 fn plain_waiting(registers: &Registers) -> Option<Waiting> {
     let (command, last) = (byte(registers.command)?, byte(registers.argument)?);
     let arguments = |given, first| {
@@ -91,6 +101,9 @@ fn plain_waiting(registers: &Registers) -> Option<Waiting> {
         (ierbulosc::IMAGE_DATA, 0, 0, (_, nth, columns)) => {
             Some(Waiting::Image { mode, nth, columns })
         }
+        (ierbulosc::STOP_LIST, b'B', last, (channel, 0, 0)) => {
+            Some(Waiting::VerticalStops { channel, last })
+        }
         (kind, _, _, (0, 0, 0)) => match (kind, command, last) {
             (ierbulosc::NOTHING, 0, 0) => Some(Waiting::Nothing),
             (ierbulosc::SECOND_BYTE, 0, 0) => Some(Waiting::SecondByte),
@@ -101,7 +114,7 @@ fn plain_waiting(registers: &Registers) -> Option<Waiting> {
             (ierbulosc::FIRST_ARGUMENT, _, 0) if more(0) => arguments(0, 0),
             (ierbulosc::SECOND_ARGUMENT, _, first) if more(1) => arguments(1, first),
             (ierbulosc::STOP_LIST, b'D', _) => Some(Waiting::HorizontalStops { last }),
-            (ierbulosc::STOP_LIST, b'B', _) => Some(Waiting::VerticalStops { last }),
+            (ierbulosc::DROPPED_LIST, 0, _) => Some(Waiting::DroppedStops { last }),
             _ => None,
         },
         _ => None,
@@ -149,10 +162,10 @@ pub fn registers(state: &State) -> Option<Registers> {
         download: state.download_set.into(),
         draft: state.draft.into(),
         upper_prints: state.upper_codes_print.into(),
-        lines_set: (!state.vertical_never_set).into(),
+        chosen: state.chosen.into(),
         columns: list(&state.horizontal)?,
-        lines: list(&state.vertical)?,
         gathered: list(&state.gathered)?,
+        channels: channels(&state.channels)?,
         ..Registers::from_registers([0; REGISTERS])
     }))
 }
@@ -229,8 +242,24 @@ fn list(list: &Stops) -> Option<RegisterStops> {
     })
 }
 
+/// The channels: counts of 0 if never set, else of one more than the stops.
+fn channels(all: &[Option<ChannelStops>; CHANNELS]) -> Option<Channels> {
+    let mut channels = Channels {
+        counts: [0; CHANNELS],
+        stops: [0; CHANNELS * LINES],
+    };
+    for (channel, list) in all.iter().enumerate() {
+        if let Some(list) = list {
+            channels.counts[channel] = u32::try_from(list.count).ok()?.checked_add(1)?;
+            channels.stops[LINES * channel..][..LINES].copy_from_slice(&list.stops);
+        }
+    }
+    Some(channels)
+}
+
 /// What is waited for: its kind, command and argument, and of an image its
-/// mode, the byte of a column and the columns.
+/// mode, the byte of a column and the columns; of a vertical list its channel
+/// in the mode's place.
 type Numbers = (u32, [u8; 2], (u8, u8, u32));
 
 fn waiting(waiting: Waiting) -> Option<Numbers> {
@@ -250,7 +279,10 @@ fn waiting(waiting: Waiting) -> Option<Numbers> {
             (true, _) => (ierbulosc::SECOND_ARGUMENT, command, first),
         },
         Waiting::HorizontalStops { last } => (ierbulosc::STOP_LIST, b'D', last),
-        Waiting::VerticalStops { last } => (ierbulosc::STOP_LIST, b'B', last),
+        Waiting::VerticalStops { channel, last } => {
+            return Some((ierbulosc::STOP_LIST, [b'B', last], (channel, 0, 0)))
+        }
+        Waiting::DroppedStops { last } => (ierbulosc::DROPPED_LIST, 0, last),
         Waiting::ImageMode => (ierbulosc::FIRST_ARGUMENT, b'*', 0),
         Waiting::ColumnsLow { mode } => (ierbulosc::SECOND_ARGUMENT, b'*', mode),
         Waiting::ColumnsHigh { mode, low } => {
@@ -274,18 +306,38 @@ pub fn unseen_stops(registers: &mut Registers) -> impl Iterator<Item = &mut u32>
     let gathers = gathers(registers);
     let Registers {
         columns,
-        lines,
         gathered,
+        channels,
         ..
     } = registers;
     let seen = if gathers { gathered.count } else { 0 };
     past(columns.count, &mut columns.stops)
-        .chain(past(lines.count, &mut lines.stops))
         .chain(past(seen, &mut gathered.stops))
+        .chain(places_past(channels))
+}
+
+/// The places of all channels past their stops.
+fn places_past(channels: &mut Channels) -> impl Iterator<Item = &mut u32> {
+    let Channels { counts, stops } = channels;
+    let places = stops.chunks_exact_mut(LINES).zip(counts);
+    places.flat_map(|(places, count)| past(count.saturating_sub(1), places))
 }
 
 fn past(count: u32, stops: &mut [u32]) -> impl Iterator<Item = &mut u32> {
     stops.iter_mut().skip(count as usize)
+}
+
+/// The registers with the places of channels that were never set made 0: what
+/// ESC @ leaves there is not said.
+pub fn without_old_places(registers: &Registers) -> Registers {
+    let mut without = *registers;
+    let Channels { counts, stops } = &mut without.channels;
+    for (places, count) in stops.chunks_exact_mut(LINES).zip(counts) {
+        if *count == 0 {
+            places.fill(0);
+        }
+    }
+    without
 }
 
 /// The registers with the parts that no rule looks at made 0.

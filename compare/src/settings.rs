@@ -39,8 +39,10 @@ pub struct Settings {
     pub upper_codes_print: bool,
     /// Horizontal stops, in columns.
     pub columns: Vec<i64>,
-    /// Vertical stops in units; none while never set.
-    pub rows: Option<Vec<i64>>,
+    /// Vertical stops in units, by channel; none while never set.
+    rows: [Option<Vec<i64>>; 8],
+    /// The channel of VT.
+    chosen: u8,
     gathered: Vec<i64>,
 }
 
@@ -64,7 +66,8 @@ impl Settings {
             spacing: 0,
             upper_codes_print: true,
             columns: (1..=9).map(|eight| 8 * eight).collect(),
-            rows: None,
+            rows: Default::default(),
+            chosen: 0,
             gathered: Vec::new(),
         }
     }
@@ -82,6 +85,11 @@ impl Settings {
 
     pub fn edge(&self) -> i64 {
         self.page - self.skip
+    }
+
+    /// The vertical stops of the chosen channel; none while never set.
+    pub fn rows(&self) -> Option<&[i64]> {
+        self.rows[usize::from(self.chosen)].as_deref()
     }
 
     /// The style field of a letter.
@@ -152,6 +160,7 @@ impl Settings {
             b'6' => self.upper_codes_print = true,
             b'7' => self.upper_codes_print = false,
             b'x' => self.draft = !on,
+            b'/' => self.chosen = n,
             b'R' => self.country = n,
             b'k' => self.font = n,
             b' ' => self.spacing = n & 0x7F,
@@ -211,17 +220,19 @@ impl Settings {
     pub fn stop(&mut self, list: List, byte: u8) {
         let each = match list {
             List::Horizontal => 1,
-            List::Vertical => self.line,
+            List::Vertical(_) => self.line,
+            List::Dropped => return,
         };
         self.gathered.push(each * i64::from(byte));
     }
 
-    /// The end of a list, which replaces the old one.
+    /// The end of a list, which replaces the old one, if it is of any.
     pub fn end_of_list(&mut self, list: List) {
         let stops = std::mem::take(&mut self.gathered);
         match list {
             List::Horizontal => self.columns = stops,
-            List::Vertical => self.rows = Some(stops),
+            List::Vertical(channel) => self.rows[usize::from(channel)] = Some(stops),
+            List::Dropped => {}
         }
     }
 }

@@ -61,8 +61,9 @@ fn sooner_end(case: &Case) -> Case {
 }
 
 /// Registers that are tried together: what is waited for; places, margins and
-/// page; the settings, and what follows from them; each list of stops.
-const PARTS: [Range<usize>; 6] = [0..6, 6..13, 13..40, 40..74, 74..107, 107..REGISTERS];
+/// page; the settings, what follows from them, and the chosen channel; each list
+/// of stops; the channels.
+const PARTS: [Range<usize>; 6] = [0..6, 6..13, 13..41, 41..74, 74..107, 107..REGISTERS];
 
 /// The case with as much of its state as at power-on as can be: parts first,
 /// then single registers, alone or with what follows from them.

@@ -5,7 +5,8 @@ use crate::calls::room_for;
 use crate::generate::{self, ONE_BYTE_MODES, THREE_BYTE_MODES};
 use crate::random::Random;
 use crate::{NARROWEST, WIDEST};
-use plain_reader::{read, start, State, Stops, Waiting};
+use plain_reader::{read, start, ChannelStops, State, Stops, Waiting, CHANNELS};
+use std::array::from_fn;
 
 const LONGEST: u64 = 79_200;
 
@@ -35,7 +36,7 @@ const INSIDE_ESCAPES: [Waiting; 4] = [
 ];
 
 /// Escapes with one argument, but ESC C.
-pub const ONE_ARGUMENT: &[u8] = b"3A+JNlQpSxWw-%tRqk !";
+pub const ONE_ARGUMENT: &[u8] = b"3A+JNlQpSxWw-%tRqk !/b";
 /// Escapes with two arguments, but ESC C 0.
 pub const TWO_ARGUMENTS: &[u8] = b"$\\KLYZ";
 
@@ -95,11 +96,8 @@ pub fn inside(random: &mut Random) -> State {
         toggle(random, &mut state);
     }
     state.horizontal = ascending(random, COLUMNS);
-    state.vertical = ascending(random, LINES);
-    state.vertical_never_set = random.flag();
-    if state.vertical_never_set {
-        state.vertical.count = 0;
-    }
+    state.channels = from_fn(|_| a_channel(random));
+    state.chosen = random.below(CHANNELS as u64) as u8;
     if random.flag() {
         await_inside(random, &mut state);
     }
@@ -124,7 +122,11 @@ pub fn arbitrary(random: &mut Random) -> State {
 pub fn normal(state: &State) -> State {
     let mut state = state.clone();
     clear_past_count(&mut state.horizontal);
-    clear_past_count(&mut state.vertical);
+    state
+        .channels
+        .iter_mut()
+        .flatten()
+        .for_each(clear_past_count);
     match state.waiting {
         Waiting::HorizontalStops { .. } | Waiting::VerticalStops { .. } => {
             clear_past_count(&mut state.gathered);
@@ -140,7 +142,7 @@ pub fn normal(state: &State) -> State {
     state
 }
 
-fn clear_past_count(list: &mut Stops) {
+fn clear_past_count<const SLOTS: usize>(list: &mut Stops<SLOTS>) {
     let unseen = list.stops.iter_mut().skip(list.count);
     unseen.for_each(|stop| *stop = 0);
 }
@@ -168,7 +170,7 @@ fn near(random: &mut Random, lowest: u32, highest: u32) -> u32 {
 /// Sets one field, or one group of fields, to some value.
 pub fn change(random: &mut Random, state: &mut State) {
     let edge = state.page_length.saturating_sub(state.skip);
-    match random.below(27) {
+    match random.below(30) {
         0 => state.resolution = random.pick(&[300, 203, 200, 0, 299, 204, 65_836]),
         1 => state.across = near(random, state.left, state.right),
         2 => state.down = near(random, 0, edge.saturating_sub(1)),
@@ -184,9 +186,9 @@ pub fn change(random: &mut Random, state: &mut State) {
         12 => state.spacing = random.pick(&[0, 1, 64, 126, 127, 128, 129, 255]),
         13 => state.font = random.byte(),
         14 => toggle(random, state),
-        15 => change_never_set(random, state),
+        15 => change_chosen(random, state),
         16 => change_list(random, &mut state.horizontal, COLUMNS),
-        17 => change_list(random, &mut state.vertical, LINES),
+        17 | 27 | 28 => change_channel(random, state),
         18 => change_list(random, &mut state.gathered, COLUMNS),
         19 => change_list(random, &mut state.gathered, LINES),
         20 => await_arguments(random, state),
@@ -195,6 +197,7 @@ pub fn change(random: &mut Random, state: &mut State) {
         23 => state.waiting = random.pick(&INSIDE_ESCAPES),
         24 => change_width(random, state),
         25 => await_columns_of_image(random, state),
+        26 => await_dropped(random, state),
         _ => state.waiting = Waiting::Nothing,
     }
 }
@@ -231,29 +234,74 @@ fn toggle(random: &mut Random, state: &mut State) {
     *flag = !*flag;
 }
 
-/// Says of the vertical stops that they were never set, even of some, or that
-/// they were set, even to none.
-fn change_never_set(random: &mut Random, state: &mut State) {
-    state.vertical_never_set = !state.vertical_never_set;
-    if random.flag() {
-        state.vertical = ascending(random, LINES);
+/// A channel: never set, set to none, or with stops.
+fn a_channel(random: &mut Random) -> Option<ChannelStops> {
+    match random.below(3) {
+        0 => None,
+        _ => Some(ascending(random, LINES)),
+    }
+}
+
+/// The number of a channel, or another beside them, far from them or for which
+/// one may be taken.
+pub fn a_channel_number(random: &mut Random) -> u8 {
+    match random.below(8) {
+        0 => random.pick(&[8, 9, 15, 16, 0x30, 0x37, 128, 255]),
+        1 => random.pick(&[0, 7]),
+        _ => random.below(CHANNELS as u64) as u8,
+    }
+}
+
+/// Chooses a channel, or a number that is none.
+fn change_chosen(random: &mut Random, state: &mut State) {
+    state.chosen = match random.flag() {
+        true => a_channel_number(random),
+        false => near(random, 0, CHANNELS as u32 - 1) as u8,
+    };
+}
+
+/// Sets or changes one of the channels, now and then the chosen one.
+fn change_channel(random: &mut Random, state: &mut State) {
+    let any = random.below(CHANNELS as u64) as usize;
+    let channel = match random.below(3) {
+        0 => usize::from(state.chosen).min(CHANNELS - 1),
+        _ => any,
+    };
+    match &mut state.channels[channel] {
+        Some(list) if random.percent(80) => change_list(random, list, LINES),
+        channel => *channel = a_channel(random),
     }
 }
 
 /// A count of stops inside, at, beside or far from its limits.
 pub fn a_count(random: &mut Random) -> u32 {
-    random.pick(&[0, 1, 15, 16, 17, 31, 32, 33, 255, 256, 65_536, u32::MAX])
+    random.pick(&[
+        0,
+        1,
+        15,
+        16,
+        17,
+        18,
+        31,
+        32,
+        33,
+        255,
+        256,
+        65_536,
+        u32::MAX - 1,
+        u32::MAX,
+    ])
 }
 
 /// A list inside its bounds, of any length up to the most.
-fn ascending(random: &mut Random, limits: Limits) -> Stops {
+fn ascending<const SLOTS: usize>(random: &mut Random, limits: Limits) -> Stops<SLOTS> {
     let most = limits.most;
     let wanted = random.pick(&[0, 1, 3, 8, most - 1, most]);
     so_many(random, wanted, limits.highest)
 }
 
 /// So many stops, ascending up to the highest.
-fn so_many(random: &mut Random, wanted: usize, highest: u64) -> Stops {
+fn so_many<const SLOTS: usize>(random: &mut Random, wanted: usize, highest: u64) -> Stops<SLOTS> {
     let mut list = Stops::EMPTY;
     let mut last = 0;
     for (slot, stop) in list.stops.iter_mut().take(wanted).enumerate() {
@@ -266,7 +314,7 @@ fn so_many(random: &mut Random, wanted: usize, highest: u64) -> Stops {
 }
 
 /// Sets a list's count or one of its stops, or makes it a new one.
-fn change_list(random: &mut Random, list: &mut Stops, limits: Limits) {
+fn change_list<const SLOTS: usize>(random: &mut Random, list: &mut Stops<SLOTS>, limits: Limits) {
     let Limits { most, highest } = limits;
     let room = list.stops.len();
     let held = list.count.clamp(1, room);
@@ -299,7 +347,7 @@ fn change_list(random: &mut Random, list: &mut Stops, limits: Limits) {
 fn await_arguments(random: &mut Random, state: &mut State) {
     let command = match random.below(10) {
         0 | 1 => random.byte(),
-        2 | 3 => random.pick(b"BD@E0&*\x0F\x1B"),
+        2 | 3 => random.pick(b"BD@E0&*b/\x0F\x1B"),
         4 => b'C',
         5 | 6 => random.pick(TWO_ARGUMENTS),
         _ => random.pick(ONE_ARGUMENT),
@@ -349,13 +397,30 @@ fn await_lines(random: &mut Random, state: &mut State) {
     let line = u64::from(state.line_amount.max(1));
     let stop = last_stop(&state.gathered);
     let last = beside(random, stop.div_ceil(line));
-    state.waiting = Waiting::VerticalStops { last };
+    state.waiting = Waiting::VerticalStops {
+        channel: a_channel_number(random),
+        last,
+    };
     let count = state.gathered.count;
     if (1..=LINES.most).contains(&count) && random.percent(30) {
         let reach = u32::from(last).wrapping_mul(state.line_amount);
         let stop = random.pick(&[reach, reach.wrapping_add(1), reach.wrapping_sub(1)]);
         state.gathered.stops[count - 1] = stop;
     }
+}
+
+/// A list being dropped, of which any byte may be the last, with any list in the
+/// gathering place.
+fn await_dropped(random: &mut Random, state: &mut State) {
+    if random.flag() {
+        change_list(random, &mut state.gathered, LINES);
+    }
+    state.waiting = Waiting::DroppedStops {
+        last: match random.below(3) {
+            0 => random.pick(&[0, 1, 254, 255]),
+            _ => random.byte(),
+        },
+    };
 }
 
 fn last_stop(list: &Stops) -> u64 {
@@ -426,11 +491,12 @@ fn await_image(random: &mut Random, state: &mut State) {
 /// Something waited for, inside the bounds.
 fn await_inside(random: &mut Random, state: &mut State) {
     for _ in 0..20 {
-        match random.below(6) {
+        match random.below(8) {
             0 => await_arguments(random, state),
-            1 | 2 => await_list(random, state),
-            3 => await_image(random, state),
-            4 => await_columns_of_image(random, state),
+            1..=3 => await_list(random, state),
+            4 => await_image(random, state),
+            5 => await_columns_of_image(random, state),
+            6 => await_dropped(random, state),
             _ => state.waiting = random.pick(&INSIDE_ESCAPES),
         }
         if state.accepted() {

@@ -3,14 +3,12 @@
 use compare::arbitrary;
 use compare::calls::{calls, room_for, run, Call, FILL};
 use compare::fields;
-use compare::generate::{self, ONE_BYTE_MODES, THREE_BYTE_MODES};
+use compare::generate::{self, CHANNELS, NO_CHANNELS, ONE_BYTE_MODES, THREE_BYTE_MODES};
 use compare::random::Random;
 use compare::registers::{follows, plain};
 use compare::shrink::shrink;
 use compare::states::{self, inside, normal, reached};
-use ierbulosc::{
-    Settings, State as Registers, Stops, COLUMNS, LINES, RECORD_SIZE, REGISTERS, ROOM,
-};
+use ierbulosc::{Settings, State as Registers, COLUMNS, LINES, RECORD_SIZE, REGISTERS, ROOM};
 use plain_reader::{read, start, Waiting};
 use std::collections::{BTreeMap, BTreeSet};
 
@@ -89,17 +87,29 @@ fn any_state_is_read_or_left_alone() {
     }
 }
 
-/// States that hold vertical stops which were never set, and nothing else wrong.
+/// States inside the bounds in which each channel was never set, is empty, has
+/// some stops or is full, chosen or not.
 #[test]
-fn stops_never_set_occur() {
+fn channels_of_all_sorts_occur() {
     let mut random = Random::new(5);
-    let states = (0..20_000).map(|_| states::arbitrary(&mut random));
-    let such = states.filter(|state| {
-        let mut set = state.clone();
-        set.vertical_never_set = false;
-        state.vertical_never_set && set.accepted() && !state.accepted()
-    });
-    assert!(such.count() > 100);
+    let states = (0..100_000).map(|_| arbitrary::arbitrary(&mut random));
+    let mut such = BTreeMap::new();
+    for state in states.filter(accepted) {
+        for (channel, count) in state.channels.counts.into_iter().enumerate() {
+            let chosen = channel == state.chosen as usize;
+            *such.entry((channel, chosen, count)).or_insert(0) += 1;
+        }
+    }
+    for channel in 0..CHANNELS.len() {
+        for chosen in [false, true] {
+            for count in [0, 1, 2, 4, 9, 16, 17] {
+                let such = such.get(&(channel, chosen, count));
+                println!("channel {channel}, chosen {chosen}, count {count}: {such:?}");
+                assert!(such > Some(&20), "{channel}, {chosen}, {count}: {such:?}");
+            }
+        }
+    }
+    assert!(such.keys().all(|(_, _, count)| *count <= 17));
 }
 
 fn accepted(state: &Registers) -> bool {
@@ -111,23 +121,35 @@ fn gathers(state: &Registers, command: u8) -> bool {
     (state.kind, state.command) == (ierbulosc::STOP_LIST, command.into())
 }
 
-/// A list of stops, if the state has such a one.
-type List = fn(&mut Registers) -> Option<&mut Stops>;
+/// The count of a list of stops, if the state has such a one.
+type Count = fn(&mut Registers) -> Option<&mut u32>;
 
-const LISTS: [(&str, List, usize); 4] = [
-    ("columns", |state| Some(&mut state.columns), COLUMNS),
-    ("lines", |state| Some(&mut state.lines), LINES),
+/// The counts, and the highest that each may be.
+const COUNTS: [(&str, Count, usize); 11] = [
+    ("columns", |state| Some(&mut state.columns.count), COLUMNS),
     (
         "gathered columns",
-        |state| gathers(state, b'D').then_some(&mut state.gathered),
+        |state| gathers(state, b'D').then_some(&mut state.gathered.count),
         COLUMNS,
     ),
     (
         "gathered lines",
-        |state| gathers(state, b'B').then_some(&mut state.gathered),
+        |state| gathers(state, b'B').then_some(&mut state.gathered.count),
         LINES,
     ),
+    ("channel 0", of_channel::<0>, LINES + 1),
+    ("channel 1", of_channel::<1>, LINES + 1),
+    ("channel 2", of_channel::<2>, LINES + 1),
+    ("channel 3", of_channel::<3>, LINES + 1),
+    ("channel 4", of_channel::<4>, LINES + 1),
+    ("channel 5", of_channel::<5>, LINES + 1),
+    ("channel 6", of_channel::<6>, LINES + 1),
+    ("channel 7", of_channel::<7>, LINES + 1),
 ];
+
+fn of_channel<const CHANNEL: usize>(state: &mut Registers) -> Option<&mut u32> {
+    Some(&mut state.channels.counts[CHANNEL])
+}
 
 /// Lists with too high a count, by one or by far, and nothing else wrong.
 #[test]
@@ -136,13 +158,13 @@ fn too_many_stops_occur() {
     let states: Vec<_> = (0..200_000)
         .map(|_| arbitrary::arbitrary(&mut random))
         .collect();
-    for (name, list, most) in LISTS {
+    for (name, count, most) in COUNTS {
         let most = most as u32;
         for counts in [most + 1..=most + 1, 65_536..=u32::MAX] {
             let such = states.iter().filter(|state| {
                 let mut mended = **state;
-                let list = list(&mut mended).filter(|list| counts.contains(&list.count));
-                list.map(|list| list.count = most).is_some() && accepted(&mended)
+                let count = count(&mut mended).filter(|count| counts.contains(count));
+                count.map(|count| *count = most).is_some() && accepted(&mended)
             });
             let such = such.count();
             println!("{counts:?} {name}: {such}");
@@ -177,7 +199,7 @@ fn each_register_is_wrong_alone() {
         if accepted(&state) {
             continue;
         }
-        for (at, such) in such.iter_mut().enumerate().take(42) {
+        for (at, such) in such.iter_mut().enumerate().filter(not_in_a_list) {
             let mut mended = state.registers();
             mended[at] = power_on.registers()[at];
             let mended = follows(&Registers::from_registers(mended));
@@ -189,10 +211,16 @@ fn each_register_is_wrong_alone() {
     let names = fields::fields(&mut state)
         .into_iter()
         .map(|field| field.name);
-    for (name, such) in names.zip(such).take(42) {
+    for (_, (name, such)) in names.zip(such).enumerate().filter(not_in_a_list) {
         println!("{name}: {such}");
         assert!(such > 20, "{name}: {such}");
     }
+}
+
+/// Whether a register has a meaning of its own, whatever is waited for: all but
+/// stops and the count of those gathered.
+fn not_in_a_list<T>((at, _): &(usize, T)) -> bool {
+    (0..42).contains(at) || (107..115).contains(at)
 }
 
 /// Gathered lists of both kinds, from empty to full, and anything at all in
@@ -220,6 +248,98 @@ fn gathered_lists_of_both_kinds_occur() {
         occurs(&format!("{count} of none"), &|state| {
             state.kind != ierbulosc::STOP_LIST && state.gathered.count == count
         });
+    }
+}
+
+/// Calls that are cut inside ESC /, ESC b and their lists, of each channel and
+/// of none, and that go on from there.
+#[test]
+fn channels_are_cut_after_each_byte() {
+    let mut gone_on = BTreeMap::new();
+    for seed in 0..6_000 {
+        let outcomes = run(&calls(&mut Random::new(seed)));
+        for pair in outcomes.windows(2) {
+            let place = match pair[0].state.waiting {
+                Waiting::Arguments { command, .. } if b"/b".contains(&command) => (command, 0),
+                Waiting::VerticalStops { channel, .. } => (b'B', channel),
+                Waiting::DroppedStops { last } => (b' ', u8::from(last > 0)),
+                _ => continue,
+            };
+            if pair[1].read > 0 {
+                *gone_on.entry(place).or_insert(0) += 1;
+            }
+        }
+    }
+    println!("{gone_on:?}");
+    let lists = CHANNELS.map(|channel| (b'B', channel)).into_iter();
+    let others = [(b'/', 0), (b'b', 0), (b' ', 0), (b' ', 1)];
+    for place in lists.chain(others) {
+        assert!(gone_on.get(&place) > Some(&10), "{place:?}: {gone_on:?}");
+    }
+}
+
+/// Every number of a channel comes; each channel gets empty lists, full ones and
+/// longer ones; dropped lists are as long; VT comes with each channel chosen
+/// that was never set, is empty, or has stops.
+#[test]
+fn telling_channels_come() {
+    let mut numbers = [BTreeSet::new(), BTreeSet::new()];
+    let mut ended = BTreeMap::new();
+    let mut passed_over = BTreeMap::new();
+    let mut dropped = BTreeMap::new();
+    let mut tabs = BTreeMap::new();
+    for seed in 0..12_000 {
+        let input = generate::input(&mut Random::new(seed), 60);
+        let (_, mut state) = start(300, false, 28_800);
+        let mut length = 0;
+        for byte in input {
+            let before = state.clone();
+            read(&mut state, &[byte], 1, &mut [0; ROOM]);
+            match before.waiting {
+                Waiting::Arguments { command, .. } if b"/b".contains(&command) => {
+                    numbers[usize::from(command == b'b')].insert(byte);
+                    length = 0;
+                }
+                Waiting::VerticalStops { channel, last } if byte <= last => {
+                    *ended.entry((channel, before.gathered.count)).or_insert(0) += 1;
+                }
+                Waiting::VerticalStops { channel, .. } if before.gathered.count == LINES => {
+                    *passed_over.entry(channel).or_insert(0) += 1;
+                }
+                Waiting::DroppedStops { last } if byte <= last => {
+                    *dropped.entry(length).or_insert(0) += 1;
+                }
+                Waiting::DroppedStops { .. } => length += 1,
+                Waiting::Nothing if byte == 11 => {
+                    let stops = &before.channels[usize::from(before.chosen)];
+                    let sort = stops.as_ref().map(|stops| stops.count.min(1));
+                    *tabs.entry((before.chosen, sort)).or_insert(0) += 1;
+                }
+                _ => {}
+            }
+        }
+    }
+    let [chosen, set] = numbers;
+    println!("{} numbers of ESC /, {} of ESC b", chosen.len(), set.len());
+    for number in CHANNELS.into_iter().chain(NO_CHANNELS).chain([0x1B, 0x30]) {
+        assert!(
+            chosen.contains(&number) && set.contains(&number),
+            "{number}"
+        );
+    }
+    assert!(chosen.len() == 256 && set.len() == 256);
+    println!("{ended:?}\n{passed_over:?}\n{dropped:?}\n{tabs:?}");
+    for channel in CHANNELS {
+        for count in [0, 1, 2, 15, 16] {
+            assert!(ended.get(&(channel, count)) > Some(&3), "{channel} {count}");
+        }
+        assert!(passed_over.get(&channel) > Some(&10), "channel {channel}");
+        for sort in [None, Some(0), Some(1)] {
+            assert!(tabs.get(&(channel, sort)) > Some(&20), "{channel} {sort:?}");
+        }
+    }
+    for length in [0, 1, 2, 15, 16, 17, 33] {
+        assert!(dropped.get(&length) > Some(&3), "{length}");
     }
 }
 

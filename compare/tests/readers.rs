@@ -8,7 +8,7 @@ use compare::hold::{difference, outcomes, Case, Tally};
 use compare::random::Random;
 use compare::registers::{follows, plain};
 use compare::text;
-use ierbulosc::{State as Registers, COLUMNS, LINES, RECORD_SIZE, REGISTERS};
+use ierbulosc::{State as Registers, COLUMNS, RECORD_SIZE, REGISTERS};
 
 #[test]
 fn no_difference_in_a_small_run() {
@@ -71,9 +71,9 @@ fn a_case_from_text() {
 /// Numbers at, beside and far from every bound, and the own one with more
 /// above its low bits.
 fn numbers(own: u32) -> impl Iterator<Item = u32> {
-    const LIMITS: [u32; 31] = [
-        0, 1, 2, 3, 4, 5, 6, 10, 11, 12, 13, 14, 15, 16, 17, 32, 33, 64, 65, 127, 128, 200, 203,
-        255, 256, 300, 3_600, 5_100, 5_101, 7_199, 7_200,
+    const LIMITS: [u32; 34] = [
+        0, 1, 2, 3, 4, 5, 6, 7, 8, 10, 11, 12, 13, 14, 15, 16, 17, 18, 32, 33, 64, 65, 127, 128,
+        200, 203, 255, 256, 300, 3_600, 5_100, 5_101, 7_199, 7_200,
     ];
     const FAR: [u32; 8] = [
         28_800,
@@ -125,10 +125,7 @@ fn each_register_at_its_bounds() {
     let mut state = Registers::from_registers([0; REGISTERS]);
     for (field, [refused, accepted]) in fields(&mut state).iter().zip(taken) {
         let name = field.name;
-        let unseen = name
-            .slot_of("lines.stops")
-            .is_some_and(|slot| slot >= LINES);
-        assert_eq!(refused == 0, unseen, "{name}: {refused} refused");
+        assert!(refused > 0, "{name}");
         assert_eq!(accepted == 0, name.is_derived(), "{name}: {accepted}");
     }
 }
@@ -163,6 +160,94 @@ fn every_place_of_esc_i() {
                 };
                 assert_eq!(difference(&case, &mut tally), None, "{}", text::text(&case));
             }
+        }
+    }
+}
+
+/// Lists of stops waited for, of each channel and of none, dropped or not, with
+/// every byte before and numbers beside them: both readers take the same states,
+/// and read on the same.
+#[test]
+fn every_place_of_lists() {
+    let mut random = Random::new(17);
+    let mut tally = Tally::default();
+    let mut places = Vec::new();
+    for number in (0..=256).chain([0x107, 0x1_0007, u32::MAX]) {
+        for command in [0, 0x42, 0x44, 0x62, 0x142, 0x1_0042] {
+            for kind in [4, 7] {
+                places.push([kind, command, number, 0, 0, 0]);
+                places.push([kind, command, number, 7, 0, 0]);
+                places.push([kind, command, 9, number, 0, 0]);
+                places.push([kind, command, 9, 0, number, 0]);
+                places.push([kind, command, 9, 0, 0, number]);
+            }
+        }
+        for command in [0x2F, 0x62] {
+            places.push([2, command, number, 0, 0, 0]);
+            places.push([2, command, 0, number, 0, 0]);
+            places.push([3, command, number, 0, 0, 0]);
+        }
+        places.push([7, number, 9, 0, 0, 0]);
+        places.push([number, 0x42, 9, 7, 0, 0]);
+        places.push([number, 0, 9, 0, 0, 0]);
+    }
+    for place in places {
+        for gathered in [0, 1] {
+            let mut registers = arbitrary::accepted(&mut random).registers();
+            registers[..6].copy_from_slice(&place);
+            registers[74] = gathered;
+            registers[75] = 1;
+            let state = Some(Registers::from_registers(registers));
+            let calls = vec![
+                reading(&[random.byte(), 255, 0]),
+                reading(b"A\x0BB\x1B/\x07\x0BC\x1B/\x00\x0BD"),
+            ];
+            let case = Case { state, calls };
+            assert_eq!(difference(&case, &mut tally), None, "{}", text::text(&case));
+        }
+    }
+}
+
+/// Every number of a channel, chosen and set, with lists of some lengths, cut
+/// after each byte, after ESC 6 and after ESC 7, begun by 1Bh and by 9Bh.
+#[test]
+fn every_number_of_a_channel() {
+    let mut tally = Tally::default();
+    let many: Vec<u8> = (1..=18).collect();
+    for (upper, first) in [(b'6', 0x1B), (b'7', 0x1B), (b'7', 0x9B)] {
+        for channel in 0..=255 {
+            for list in [&many[..0], &many[1..2], &many[..16], &many[..17], &many] {
+                let set = [&[first, b'b', channel][..], list, &[0]].concat();
+                let used = [first, b'/', channel, 0x0B, b'A', 0x0B, b'B', 0x8B];
+                let input = [&set[..], &used, b"\x1BB\x03\x03\x0BC\x1B@\x0BD"].concat();
+                let mut calls = vec![Call::Start(Default::default())];
+                calls.push(reading(&[0x1B, upper, 0x0E]));
+                calls.push(reading(&input));
+                calls.push(reading(&[0x1B, upper]));
+                calls.extend(input.iter().map(|&byte| reading(&[byte])));
+                let case = Case { state: None, calls };
+                assert_eq!(difference(&case, &mut tally), None, "{}", text::text(&case));
+            }
+        }
+    }
+}
+
+/// Each channel set while each is chosen: VT in each tells them apart.
+#[test]
+fn every_channel_set_while_another_is_chosen() {
+    let mut tally = Tally::default();
+    for chosen in 0..8 {
+        for set in 0..8 {
+            let mut input = vec![0x1B, b'b', 7 - set, 3, 9, 0];
+            input.extend([0x1B, b'/', chosen, 0x1B, b'b', set, 2, 5, 7, 0]);
+            input.extend(b"\x0BA\x0BB\x0BC\x1BB\x04\x00\x0BD");
+            for channel in 0..8 {
+                input.extend([0x0C, 0x1B, b'/', channel, 0x0B, b'0' + channel]);
+            }
+            input.extend(b"\x1B@\x0BE");
+            let calls = vec![Call::Start(Default::default()), reading(&input)];
+            let case = Case { state: None, calls };
+            assert_eq!(difference(&case, &mut tally), None, "{}", text::text(&case));
         }
     }
 }

@@ -158,3 +158,40 @@ fn columns_move_after_their_last_byte() {
     assert_eq!(shown.skip(6).collect::<Vec<_>>(), [letter]);
     assert_eq!(due[6].down, 600);
 }
+
+/// VT goes by the stops of the chosen channel; ESC B sets channel 0, ESC b its
+/// own, and a list of no channel none.
+#[test]
+fn channels_are_reckoned_each_by_itself() {
+    let reading = |input: &[u8]| Call::Read {
+        input: input.to_vec(),
+        allowance: 100,
+        room: 2_000,
+    };
+    let list = [
+        Call::Start(Settings::default()),
+        reading(b"\x1Bb\x05\x02\x00\x0BA\x1B/\x05\x0BB\x1BB\x03"),
+        reading(b"\x00\x0BC\x1B/\x00\x0BD\x1Bb\x08\x04\x05"),
+        reading(b"\x05\x0BE\x1B/\x08\x1B/0\x0BF\x1Bb\x02\x00\x1B/\x02 \x0BG"),
+        reading(b"\x1B@\x0BH\x1B/\x05\x0BI"),
+    ];
+    let (records, reads) = placed(&list);
+    let due = expected(&list, &reads);
+    assert!(due.iter().map(|printed| &printed.record).eq(&records));
+    let letters = due.iter().filter(|printed| printed.record[6] != b' ');
+    let places: Vec<(u8, i64, i64)> = letters
+        .map(|printed| (printed.record[6], printed.across, printed.down))
+        .collect();
+    let expected = [
+        (b'A', 0, 600),
+        (b'B', 0, 1_200),
+        (b'C', 0, 0),
+        (b'D', 0, 1_800),
+        (b'E', 0, 0),
+        (b'F', 0, 1_800),
+        (b'G', 0, 1_800),
+        (b'H', 0, 600),
+        (b'I', 0, 1_200),
+    ];
+    assert_eq!(places, expected);
+}

@@ -2,7 +2,7 @@
 
 use compare::fields::{differing, fields, set};
 use compare::random::Random;
-use compare::registers::{follows, normal, plain, registers};
+use compare::registers::{follows, normal, plain, registers, without_old_places};
 use compare::{arbitrary, states};
 use ierbulosc::{State as Registers, REGISTERS, ROOM};
 use plain_reader::{read, start};
@@ -51,7 +51,8 @@ fn there_and_back() {
             continue;
         };
         told += 1;
-        assert_eq!(registers(&plain), Some(state));
+        let back = registers(&plain).unwrap();
+        assert_eq!(without_old_places(&back), without_old_places(&state));
     }
     assert!(told > 12_000, "{told}");
 }
@@ -84,7 +85,7 @@ fn numbers_that_stand_for_no_plain_state() {
         "image_columns",
     ];
     let derived = ["dots_down", "style", "advance", "column_width"];
-    assert_eq!(flags.len(), 17 + 6, "{flags:?}");
+    assert_eq!(flags.len(), 16 + 6, "{flags:?}");
     for name in flags
         .iter()
         .filter(|name| !waiting.contains(&name.as_str()))
@@ -95,7 +96,7 @@ fn numbers_that_stand_for_no_plain_state() {
             assert_eq!(with(name, number), (false, false), "{name} {number}");
         }
     }
-    for name in ["pitch", "spacing", "font", "country", "outline"] {
+    for name in ["pitch", "spacing", "font", "country", "outline", "chosen"] {
         assert_eq!(with(name, 256 + 10), (false, false), "{name}");
     }
     for (name, number) in [
@@ -104,12 +105,15 @@ fn numbers_that_stand_for_no_plain_state() {
         ("paper_width", 28_801),
         ("pitch", 11),
         ("columns.stops[8]", 256),
+        ("chosen", 8),
+        ("channels.counts[0]", 2),
+        ("channels.counts[7]", 18),
     ] {
         assert_eq!(with(name, number), (true, false), "{name}");
     }
     for count in [33, 256, 65_536, u32::MAX] {
         assert_eq!(with("columns.count", count), (true, false));
-        assert_eq!(with("lines.count", count), (true, false));
+        assert_eq!(with("channels.counts[5]", count), (true, false));
         assert_eq!(with("gathered.count", count), (true, true));
     }
     for name in derived {
@@ -175,22 +179,28 @@ fn kinds_of_waiting() {
     for kind in [0, 1] {
         assert_eq!(commands(kind, 0, NO_IMAGE), [0]);
     }
-    assert_eq!(commands(2, 0, NO_IMAGE), b" !$%*+-3ACJKLNQRSWYZ\\iklpqtwx");
+    assert_eq!(
+        commands(2, 0, NO_IMAGE),
+        b" !$%*+-/3ACJKLNQRSWYZ\\biklpqtwx"
+    );
     assert_eq!(commands(3, 0, NO_IMAGE), b"$*CKLYZ\\");
     assert_eq!(commands(3, 7, NO_IMAGE), b"$KLYZ\\");
     assert_eq!(commands(3, 39, NO_IMAGE), b"$*KLYZ\\");
     assert_eq!(commands(3, b'a'.into(), NO_IMAGE), b"$KLYZ\\i");
     assert_eq!(commands(4, 7, NO_IMAGE), b"BD");
+    assert_eq!(commands(4, 7, [7, 0, 0]), b"B");
+    assert_eq!(commands(7, 0, NO_IMAGE), [0]);
+    assert_eq!(commands(7, 255, NO_IMAGE), [0]);
     assert_eq!(commands(5, 0, [0, 1, 65_535]), [0]);
     assert_eq!(commands(5, 0, [40, 3, 1]), [0]);
     assert_eq!(commands(6, 7, [0, 0, 0]), b"*");
     assert_eq!(commands(6, 0, [39, 0, 0]), b"*");
     for kind in (0..=255).chain([256, 257, 258, u32::MAX]) {
-        let argued = matches!(kind, 3 | 4 | 6);
+        let argued = matches!(kind, 3 | 4 | 6 | 7);
         let unused = !argued && !commands(kind, 1, NO_IMAGE).is_empty();
         assert!(!unused, "kind {kind} with an argument");
         for image in IMAGES {
-            let modes = kind == 6 && image == [1, 0, 0];
+            let modes = matches!(kind, 4 | 6) && image == [1, 0, 0];
             let unused = !modes && !commands(kind, 0, image).is_empty();
             assert!(!unused, "kind {kind} with {image:?}");
         }
@@ -199,7 +209,7 @@ fn kinds_of_waiting() {
         assert!(commands(kind, 0, [0, 1, 65_536]).is_empty());
     }
     assert!(commands(5, 0, NO_IMAGE).is_empty() && commands(5, 1, [0, 1, 1]).is_empty());
-    assert!(commands(7, 0, NO_IMAGE).is_empty());
+    assert!(commands(8, 0, NO_IMAGE).is_empty());
 }
 
 const ONE_BYTE: [u32; 6] = [0, 1, 2, 3, 4, 6];
@@ -279,6 +289,59 @@ fn the_registers_of_an_image() {
         assert_eq!(after(&escape[..3]), [3, command, 2, 0, 0, 0]);
         assert_eq!(after(&escape[..4]), [5, 0, 0, mode, 1, 2]);
         assert_eq!(after(&escape), [5, 0, 0, mode, 1, 1]);
+    }
+}
+
+/// A vertical list is waited for with one of the channels and any byte before,
+/// and a dropped one with any byte before and nothing else.
+#[test]
+fn the_places_of_lists() {
+    for number in (0..=300).chain([0x107, 1 << 16, u32::MAX]) {
+        for last in [0, 1, 255] {
+            let vertical = waits(4, b'B'.into(), last, [number, 0, 0]);
+            assert_eq!(vertical, number <= 7, "channel {number}");
+            let horizontal = waits(4, b'D'.into(), last, [number, 0, 0]);
+            assert_eq!(horizontal, number == 0, "{number}");
+            assert!(!waits(4, b'b'.into(), last, [number, 0, 0]));
+            assert_eq!(waits(7, 0, last, [number, 0, 0]), number == 0);
+            assert_eq!(waits(7, number, last, NO_IMAGE), number == 0);
+        }
+        assert_eq!(waits(7, 0, number, NO_IMAGE), number <= 255);
+        assert_eq!(waits(4, b'B'.into(), number, [7, 0, 0]), number <= 255);
+    }
+    assert!(!waits(4, b'B'.into(), 1, [7, 1, 0]) && !waits(4, b'B'.into(), 1, [7, 0, 1]));
+}
+
+/// What stands in the registers after ESC /, ESC b and ESC B.
+#[test]
+fn the_registers_of_channels() {
+    let after = |input: &[u8]| {
+        let (_, mut state) = start(300, false, 28_800);
+        read(&mut state, input, usize::MAX, &mut [0; 40 * ROOM]);
+        registers(&state).unwrap()
+    };
+    let waiting = |input| after(input).registers()[..6].to_vec();
+    assert_eq!(waiting(b"\x1B/"), [2, 0x2F, 0, 0, 0, 0]);
+    assert_eq!(waiting(b"\x1Bb"), [2, 0x62, 0, 0, 0, 0]);
+    assert_eq!(waiting(b"\x1Bb\x05"), [4, 0x42, 0, 5, 0, 0]);
+    assert_eq!(waiting(b"\x1Bb\x05\x09"), [4, 0x42, 9, 5, 0, 0]);
+    assert_eq!(waiting(b"\x1B/\x03\x1BB\x09"), [4, 0x42, 9, 0, 0, 0]);
+    assert_eq!(waiting(b"\x1Bb\x08"), [7, 0, 0, 0, 0, 0]);
+    assert_eq!(waiting(b"\x1Bb\x08\x09"), [7, 0, 9, 0, 0, 0]);
+    assert_eq!(waiting(b"\x1Bb\x08\x09\x09"), [0; 6]);
+    assert_eq!(after(b"\x1B/\x07").registers()[40], 7);
+    for channel in 0..8 {
+        let numbers = after(&[0x1B, b'b', channel, 2, 5, 0]).registers();
+        let mut expected = power_on().registers();
+        let channel = usize::from(channel);
+        expected[107 + channel] = 3;
+        expected[115 + 16 * channel] = 1_200;
+        expected[116 + 16 * channel] = 3_000;
+        assert_eq!(numbers, expected);
+        let numbers = after(&[0x1B, b'b', channel as u8, 0]).registers();
+        let mut expected = power_on().registers();
+        expected[107 + channel] = 1;
+        assert_eq!(numbers, expected);
     }
 }
 

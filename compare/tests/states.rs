@@ -42,8 +42,22 @@ fn stops(word: &str) -> Vec<u32> {
         .collect()
 }
 
-/// Sets the registers that pairs of words name: a list of stops with its
-/// count, which may be named after it; what is waited for, all of it.
+/// A vertical channel by its name, `channels.3`.
+fn channel(name: &str) -> Option<usize> {
+    name.strip_prefix("channels.")?.parse().ok()
+}
+
+/// Sets the places of a list from one on, and those past it to 0.
+fn set_stops(state: &mut State, list: &str, from: usize, room: usize, held: &[u32]) {
+    for slot in 0..room {
+        let stop = held.get(slot).copied().unwrap_or(0);
+        set(state, &format!("{list}.stops[{}]", from + slot), stop).unwrap();
+    }
+}
+
+/// Sets the registers that pairs of words name: a list of stops, or a
+/// channel's, with its count, which may be named after it; what is waited for,
+/// all of it.
 fn set_all(state: &mut State, words: &[&str]) {
     if words.contains(&"kind") {
         for name in WAITING {
@@ -52,15 +66,23 @@ fn set_all(state: &mut State, words: &[&str]) {
     }
     for pair in words.chunks(2) {
         let (name, value) = (pair[0], pair[1]);
-        if !["columns", "lines", "gathered"].contains(&name) {
+        if let Some(m) = channel(name) {
+            let held = stops(value);
+            set(
+                state,
+                &format!("channels.counts[{m}]"),
+                held.len() as u32 + 1,
+            )
+            .unwrap();
+            set_stops(state, "channels", 16 * m, 16, &held);
+        } else if let Some(m) = name.strip_suffix(".count").and_then(channel) {
+            set(state, &format!("channels.counts[{m}]"), number(value)).unwrap();
+        } else if ["columns", "gathered"].contains(&name) {
+            let held = stops(value);
+            set(state, &format!("{name}.count"), held.len() as u32).unwrap();
+            set_stops(state, name, 0, 32, &held);
+        } else {
             set(state, name, number(value)).unwrap();
-            continue;
-        }
-        let held = stops(value);
-        set(state, &format!("{name}.count"), held.len() as u32).unwrap();
-        for slot in 0..32 {
-            let stop = held.get(slot).copied().unwrap_or(0);
-            set(state, &format!("{name}.stops[{slot}]"), stop).unwrap();
         }
     }
 }

@@ -2,8 +2,8 @@
 
 use crate::images::Mode;
 use crate::state::{
-    State, Stops, Waiting, LARGEST_LINE, LARGEST_SPACING, LONGEST_PAGE, MOST_HORIZONTAL_STOPS,
-    MOST_VERTICAL_STOPS, NARROWEST_PAPER, SHORTEST_PAGE, WIDEST_PAPER,
+    State, Stops, Waiting, CHANNELS, LARGEST_LINE, LARGEST_SPACING, LONGEST_PAGE,
+    MOST_HORIZONTAL_STOPS, MOST_VERTICAL_STOPS, NARROWEST_PAPER, SHORTEST_PAGE, WIDEST_PAPER,
 };
 
 const HIGHEST_COLUMN: u32 = 255;
@@ -30,7 +30,7 @@ impl State {
         self.places_in_bounds()
             && self.settings_in_bounds()
             && self.horizontal.in_bounds(&HORIZONTAL)
-            && self.vertical_stops_in_bounds()
+            && self.channels_in_bounds()
             && self.waiting_in_bounds()
     }
 
@@ -56,10 +56,11 @@ impl State {
             && self.character_style <= 3
     }
 
-    /// Vertical stops that were never set are none.
-    fn vertical_stops_in_bounds(&self) -> bool {
-        let none = self.vertical.count == 0;
-        self.vertical.in_bounds(&VERTICAL) && (none || !self.vertical_never_set)
+    /// The chosen channel is one of ours, and so are the stops of each that was
+    /// set.
+    fn channels_in_bounds(&self) -> bool {
+        let mut set = self.channels.iter().flatten();
+        is_channel(self.chosen) && set.all(|stops| stops.in_bounds(&VERTICAL))
     }
 
     fn waiting_in_bounds(&self) -> bool {
@@ -74,10 +75,11 @@ impl State {
             Waiting::HorizontalStops { last } => self
                 .gathered
                 .gathered_in_bounds(&HORIZONTAL, u64::from(last)),
-            Waiting::VerticalStops { last } => {
+            Waiting::VerticalStops { channel, last } => {
                 let place = u64::from(last) * u64::from(self.line_amount);
-                self.gathered.gathered_in_bounds(&VERTICAL, place)
+                is_channel(channel) && self.gathered.gathered_in_bounds(&VERTICAL, place)
             }
+            Waiting::DroppedStops { .. } => true,
             Waiting::ImageMode => true,
             Waiting::ColumnsLow { mode } | Waiting::ColumnsHigh { mode, .. } => {
                 Mode::listed(mode).is_some()
@@ -90,7 +92,11 @@ impl State {
     }
 }
 
-impl Stops {
+fn is_channel(number: u8) -> bool {
+    usize::from(number) < CHANNELS
+}
+
+impl<const SLOTS: usize> Stops<SLOTS> {
     /// Not too many stops, ascending strictly, from 1 to the highest.
     fn in_bounds(&self, limits: &Limits) -> bool {
         self.count <= limits.most
@@ -126,7 +132,7 @@ fn arguments_in_bounds(command: u8, given: u8, first: u8) -> bool {
 /// How many arguments a listed command may take at most, other than a list.
 pub fn arguments_taken(command: u8) -> u8 {
     match command {
-        b'3' | b'A' | b'+' | b'J' | b'N' | b'l' | b'Q' => 1,
+        b'3' | b'A' | b'+' | b'J' | b'N' | b'l' | b'Q' | b'/' | b'b' => 1,
         b'p' | b'S' | b'x' | b'W' | b'w' | b'-' | b'%' => 1,
         b't' | b'R' | b'q' | b'k' | b' ' | b'!' => 1,
         b'C' | b'$' | b'\\' | b'K' | b'L' | b'Y' | b'Z' => 2,

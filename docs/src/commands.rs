@@ -32,7 +32,8 @@ impl Reading<'_> {
             } => self.first_argument(command, byte),
             Waiting::Arguments { command, first, .. } => self.second_argument(command, first, byte),
             Waiting::HorizontalStops { last } => self.horizontal_stop(last, byte),
-            Waiting::VerticalStops { last } => self.vertical_stop(last, byte),
+            Waiting::VerticalStops { channel, last } => self.vertical_stop(channel, last, byte),
+            Waiting::DroppedStops { last } => self.dropped_stop(last, byte),
             Waiting::ImageMode => self.image_mode(byte),
             Waiting::ColumnsLow { mode } => self.columns_low(mode, byte),
             Waiting::ColumnsHigh { mode, low } => self.columns_high(mode, low, byte),
@@ -104,7 +105,7 @@ impl Reading<'_> {
             b'0' => self.state.line_amount = 450,
             b'2' => self.state.line_amount = 600,
             b'O' => self.state.skip = 0,
-            b'B' => self.begin_vertical_stops(),
+            b'B' => self.begin_vertical_stops(0),
             b'D' => self.begin_horizontal_stops(),
             b'i' => self.state.waiting = Waiting::ThirdByte,
             b'*' => self.state.waiting = Waiting::ImageMode,
@@ -190,6 +191,8 @@ impl Reading<'_> {
             b'N' if (1..=127).contains(&n) => {
                 return self.set_skip(amount * self.state.line_amount)
             }
+            b'/' => return self.choose_channel(n),
+            b'b' => return self.set_channel(n),
             b'l' => return self.set_margins(amount * self.column_width, self.state.right),
             b'Q' => return self.set_margins(self.state.left, amount * self.column_width),
             b't' if n <= 1 => self.set_style(|state| state.italic_table = n == 0),

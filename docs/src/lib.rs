@@ -20,7 +20,7 @@ mod tests;
 mod writing;
 
 pub use slot::{slot, ANSWERED, LIST_REFUSED};
-pub use state::{State, Stops, Waiting};
+pub use state::{ChannelStops, State, Stops, Waiting, CHANNELS};
 pub use writing::{
     write, BYTE_REFUSED, LETTERS_REFUSED, LETTER_SIZE, PLACE_REFUSED, ROOM_REFUSED, WRITTEN,
 };

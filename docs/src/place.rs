@@ -95,18 +95,16 @@ impl Reading<'_> {
         self.records.line(self.row, pages as u8);
     }
 
-    /// VT: to the next vertical stop.
+    /// VT: to the next vertical stop of the chosen channel.
     pub fn vertical_tab(&mut self) {
         self.end_shift_out();
-        if self.state.vertical_never_set {
+        let Some(stops) = self.state.vertical_stops() else {
             return self.line_feed();
-        }
-        if self.state.vertical.count == 0 {
+        };
+        if stops.is_empty() {
             return self.carriage_return();
         }
-        let below = |stop: &&u32| **stop > self.state.down;
-        let next = self.state.vertical.list().iter().find(below);
-        match next {
+        match stops.iter().find(|&&stop| stop > self.state.down) {
             Some(&stop) if stop < self.state.edge() => {
                 self.state.across = self.state.left;
                 self.go_down(stop);

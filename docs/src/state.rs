@@ -12,20 +12,26 @@ pub(crate) const LARGEST_SPACING: u8 = 127;
 const POWER_ON_PAGE: u32 = 39_600;
 const POWER_ON_LINE: u32 = 600;
 
-/// The most horizontal stops, and so the slots of a list of either kind.
+/// The most horizontal stops, and so the slots of a list being gathered.
 pub(crate) const MOST_HORIZONTAL_STOPS: usize = 32;
+/// The most stops of a vertical channel.
 pub(crate) const MOST_VERTICAL_STOPS: usize = 16;
+/// The vertical channels, numbered from 0.
+pub const CHANNELS: usize = 8;
 
 /// A list of tab stops and how many of its slots count.
 #[derive(Clone, PartialEq, Eq, Debug)]
-pub struct Stops {
-    pub stops: [u32; MOST_HORIZONTAL_STOPS],
+pub struct Stops<const SLOTS: usize = MOST_HORIZONTAL_STOPS> {
+    pub stops: [u32; SLOTS],
     pub count: usize,
 }
 
-impl Stops {
-    pub const EMPTY: Stops = Stops {
-        stops: [0; MOST_HORIZONTAL_STOPS],
+/// The stops of a vertical channel.
+pub type ChannelStops = Stops<MOST_VERTICAL_STOPS>;
+
+impl<const SLOTS: usize> Stops<SLOTS> {
+    pub const EMPTY: Self = Stops {
+        stops: [0; SLOTS],
         count: 0,
     };
 
@@ -38,6 +44,16 @@ impl Stops {
     pub(crate) fn add(&mut self, stop: u32) {
         self.stops[self.count] = stop;
         self.count += 1;
+    }
+}
+
+impl Stops {
+    /// The list as a channel has it, which takes no more stops than there are
+    /// in it.
+    pub(crate) fn of_a_channel(&self) -> ChannelStops {
+        let mut stops = ChannelStops::EMPTY;
+        self.list().iter().for_each(|&stop| stops.add(stop));
+        stops
     }
 }
 
@@ -62,8 +78,14 @@ pub enum Waiting {
     HorizontalStops {
         last: u8,
     },
-    /// A list of vertical stops (ESC B), after this byte.
+    /// A list of vertical stops (ESC B, ESC b) for this channel, after this
+    /// byte.
     VerticalStops {
+        channel: u8,
+        last: u8,
+    },
+    /// A list of ESC b for no channel, which is dropped, after this byte.
+    DroppedStops {
         last: u8,
     },
     /// The mode of ESC *.
@@ -131,11 +153,13 @@ pub struct State {
     pub upper_codes_print: bool,
     /// Horizontal stops in force, in columns.
     pub horizontal: Stops,
-    /// Vertical stops in force, in units from the page's top.
-    pub vertical: Stops,
-    pub vertical_never_set: bool,
-    /// The list that ESC D or ESC B is gathering, of no meaning while none is
-    /// waited for.
+    /// Vertical stops in force, in units from the page's top, by channel; none
+    /// for a channel that was never set.
+    pub channels: [Option<ChannelStops>; CHANNELS],
+    /// The channel that VT uses (ESC /).
+    pub chosen: u8,
+    /// The list that ESC D, ESC B or ESC b is gathering, of no meaning while
+    /// none is waited for.
     pub gathered: Stops,
     pub waiting: Waiting,
 }
@@ -175,8 +199,8 @@ impl State {
             spacing: 0,
             upper_codes_print: true,
             horizontal: every_eight_columns(),
-            vertical: Stops::EMPTY,
-            vertical_never_set: true,
+            channels: [const { None }; CHANNELS],
+            chosen: 0,
             gathered: Stops::EMPTY,
             waiting: Waiting::Nothing,
         }
@@ -185,6 +209,12 @@ impl State {
     /// The end of the page's usable length.
     pub(crate) fn edge(&self) -> u32 {
         self.page_length - self.skip
+    }
+
+    /// The vertical stops of the chosen channel; none if it was never set.
+    pub(crate) fn vertical_stops(&self) -> Option<&[u32]> {
+        let channel = &self.channels[usize::from(self.chosen)];
+        channel.as_ref().map(Stops::list)
     }
 
     /// A letter's advance in units.

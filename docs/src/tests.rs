@@ -2,6 +2,7 @@
 
 mod answers;
 mod bounds;
+mod channels;
 mod hand_checked;
 mod images;
 mod interlock;

@@ -4,13 +4,17 @@
 use std::mem::transmute;
 
 /// The numbers of a state.
-pub const REGISTERS: usize = 140;
+pub const REGISTERS: usize = 243;
 /// The room of a list of tab stops.
 pub const TAB_STOPS: usize = 32;
 /// The most horizontal tab stops.
 pub const COLUMNS: usize = 32;
-/// The most vertical tab stops.
+/// The most vertical tab stops of a channel.
 pub const LINES: usize = 16;
+/// The vertical channels, 0 to 7.
+pub const CHANNELS: usize = 8;
+/// The places of their stops, sixteen a channel.
+pub const CHANNEL_STOPS: usize = 128;
 
 /// [`State::kind`]: nothing is waited for.
 pub const NOTHING: u32 = 0;
@@ -22,12 +26,14 @@ pub const FIRST_ARGUMENT: u32 = 2;
 /// [`State::kind`]: the second argument; that of ESC C after 0; that of ESC i
 /// after "a"; the low byte of ESC *.
 pub const SECOND_ARGUMENT: u32 = 3;
-/// [`State::kind`]: a byte of a tab stop list.
+/// [`State::kind`]: a byte of a tab stop list that sets stops.
 pub const STOP_LIST: u32 = 4;
 /// [`State::kind`]: image data.
 pub const IMAGE_DATA: u32 = 5;
 /// [`State::kind`]: the third argument: the high byte of ESC *.
 pub const THIRD_ARGUMENT: u32 = 6;
+/// [`State::kind`]: a byte of the list of ESC b with a channel above 7.
+pub const DROPPED_LIST: u32 = 7;
 
 /// What a start is asked for. Any numbers whatever may be passed.
 #[repr(C)]
@@ -54,6 +60,17 @@ pub struct Stops {
     pub stops: [u32; TAB_STOPS],
 }
 
+/// The vertical channels. Channel m has the sixteen places from 16 m on; its
+/// count is 0 if it was never set, else one more than the stops that it holds,
+/// at most 17. These are distances from the top, from 1 to 79,199, and ascend
+/// strictly; places past them are not looked at, and may be any number.
+#[repr(C)]
+#[derive(Clone, Copy, PartialEq, Eq, Debug)]
+pub struct Channels {
+    pub counts: [u32; CHANNELS],
+    pub stops: [u32; CHANNEL_STOPS],
+}
+
 /// The state of the printer: [`REGISTERS`] numbers. It is the caller's, to
 /// keep, copy, compare, store or read; the library has no other memory.
 ///
@@ -64,22 +81,24 @@ pub struct Stops {
 #[repr(C)]
 #[derive(Clone, Copy, PartialEq, Eq, Debug)]
 pub struct State {
-    /// What is waited for, [`NOTHING`] to [`THIRD_ARGUMENT`]. Of the next five, a
+    /// What is waited for, [`NOTHING`] to [`DROPPED_LIST`]. Of the next five, a
     /// number that the kind does not use is 0.
     pub kind: u32,
     /// Kinds 2, 3, 4 and 6: the escape's second byte: of kind 2 one that takes
     /// arguments, as 41h for ESC A, or i, which takes a third byte; of kind 3
     /// one that takes two ($, \\, K, L, Y or Z), or C, whose first argument is
     /// then 0, or i, whose third byte is then 61h, "a", or *, whose first
-    /// argument is then a mode that is listed; of kind 4 B or D; of kind 6 *.
+    /// argument is then a mode that is listed; of kind 4 D, or B for a vertical
+    /// list, of ESC B or ESC b; of kind 6 *.
     pub command: u32,
     /// Kinds 3 and 6: the last that came, 0 to 255, of * in kind 3 the mode's
-    /// number; kind 4: the list byte before, 0 at the beginning.
+    /// number; kinds 4 and 7: the list byte before, 0 at the beginning.
     pub argument: u32,
     /// Kinds 5 and 6: the mode's number. 0, 1, 2, 3, 4 and 6 have one byte a
     /// column, 60, 30, 30, 15, 45 and 40 units wide; 32, 33, 38, 39 and 40 have
     /// three, 60, 30, 40, 20 and 10 units wide. The data of ESC K, L, Y and Z
-    /// are modes 0, 1, 2 and 3.
+    /// are modes 0, 1, 2 and 3. Kind 4, command B: the channel that the list
+    /// sets, 0 to 7.
     pub image_mode: u32,
     /// Kind 5: which byte of its column comes next: 1 to 3 in modes of three
     /// bytes, 1 in the others.
@@ -157,18 +176,17 @@ pub struct State {
     /// The width that stops and margins count in: 360 if proportional, else
     /// the advance; it must agree with the settings above.
     pub column_width: u32,
-    /// Flag: vertical stops were set, though perhaps to none; 0: there are
-    /// none.
-    pub lines_set: u32,
+    /// The channel that VT uses, 0 to 7.
+    pub chosen: u32,
     /// Horizontal stops in force.
     pub columns: Stops,
-    /// Vertical stops in force.
-    pub lines: Stops,
-    /// Of a list that has not ended: horizontal of ESC D, or vertical of ESC B.
-    /// It is looked at only while such a list is waited for, and may be any
-    /// numbers else; the last stop is then not above the list byte before, or
-    /// for ESC B that byte times the line amount.
+    /// Of a list that has not ended: horizontal of ESC D, or vertical of ESC B
+    /// and ESC b. It is looked at only while such a list is waited for, and may
+    /// be any numbers else; the last stop is then not above the list byte
+    /// before, or for vertical ones that byte times the line amount.
     pub gathered: Stops,
+    /// Vertical stops in force.
+    pub channels: Channels,
 }
 
 impl Default for Settings {
@@ -193,6 +211,19 @@ impl Stops {
     pub fn held(&self) -> &[u32] {
         let count = usize::try_from(self.count).unwrap_or(TAB_STOPS);
         &self.stops[..count.min(TAB_STOPS)]
+    }
+}
+
+impl Channels {
+    /// The stops that a channel holds, or none if it was never set.
+    ///
+    /// # Panics
+    ///
+    /// If there is no such channel.
+    pub fn held(&self, channel: usize) -> Option<&[u32]> {
+        let count = usize::try_from(self.counts[channel]).unwrap_or(LINES + 1);
+        let places = &self.stops[LINES * channel..LINES * (channel + 1)];
+        Some(&places[..count.checked_sub(1)?.min(LINES)])
     }
 }
 

@@ -140,12 +140,13 @@ fn numbers(kind: &str, name: &str) -> Vec<Named> {
     fields.iter().flat_map(within).collect()
 }
 
-/// The number of a sum of numerals, of names that have theirs, and of the room
-/// for stops.
+/// The number of a sum of numerals, of names that have theirs, of the room for
+/// stops, and of the channels.
 fn sum(text: &str, known: &[(String, usize)]) -> usize {
     let term = |word: &str| match known.iter().find(|(name, _)| name == word) {
         Some((_, number)) => *number,
         None if word == "TabStops::ROOM" || word == "stopRoom" => c_constant("TAB_STOPS"),
+        None if word == "Channels::NUMBER" => c_constant("CHANNELS"),
         None => word.parse().unwrap_or_else(|_| panic!("{word} in {text}")),
     };
     text.split(" + ").map(term).sum()
@@ -357,7 +358,7 @@ fn mark(letters: &[u8; 2]) -> usize {
 
 #[test]
 fn constants_are_those_of_the_header() {
-    let constants: [(&str, usize); 38] = [
+    let constants: [(&str, usize); 41] = [
         ("INPUT_USED", ierbulosc::INPUT_USED.into()),
         ("ALLOWANCE_USED", ierbulosc::ALLOWANCE_USED.into()),
         ("OUTPUT_FULL", ierbulosc::OUTPUT_FULL.into()),
@@ -378,6 +379,8 @@ fn constants_are_those_of_the_header() {
         ("TAB_STOPS", ierbulosc::TAB_STOPS),
         ("COLUMNS", ierbulosc::COLUMNS),
         ("LINES", ierbulosc::LINES),
+        ("CHANNELS", ierbulosc::CHANNELS),
+        ("CHANNEL_STOPS", ierbulosc::CHANNEL_STOPS),
         ("NOTHING", ierbulosc::NOTHING as usize),
         ("SECOND_BYTE", ierbulosc::SECOND_BYTE as usize),
         ("FIRST_ARGUMENT", ierbulosc::FIRST_ARGUMENT as usize),
@@ -385,6 +388,7 @@ fn constants_are_those_of_the_header() {
         ("STOP_LIST", ierbulosc::STOP_LIST as usize),
         ("IMAGE_DATA", ierbulosc::IMAGE_DATA as usize),
         ("THIRD_ARGUMENT", ierbulosc::THIRD_ARGUMENT as usize),
+        ("DROPPED_LIST", ierbulosc::DROPPED_LIST as usize),
         ("TX", mark(b"TX")),
         ("IM", mark(b"IM")),
         ("LN", mark(b"LN")),

@@ -157,7 +157,7 @@ fn answers_in_order() {
 /// Each register in turn with a number that no state has there.
 #[test]
 fn a_refused_state_stays() {
-    let unseen = |at: usize| (51..74).contains(&at) || (75..REGISTERS).contains(&at);
+    let unseen = |at: usize| (51..107).contains(&at) || (115..REGISTERS).contains(&at);
     for at in (0..REGISTERS).filter(|&at| !unseen(at)) {
         let mut registers = power_on().registers();
         registers[at] += 1 << 31;
@@ -184,12 +184,12 @@ fn stops_are_gathered_then_in_force() {
     let state = read(b"\x00\x1BB\x02\x03");
     assert_eq!((state.kind, state.command), (STOP_LIST, b'B'.into()));
     assert_eq!(state.gathered.held(), [1_200, 1_800]);
-    assert_eq!((state.lines.count, state.lines_set), (0, 0));
+    assert_eq!((state.channels.held(0), state.chosen), (None, 0));
     let state = read(b"\x00");
     assert_eq!(state.kind, NOTHING);
     assert_eq!(state.columns.held(), [5, 10]);
-    assert_eq!(state.lines.held(), [1_200, 1_800]);
-    assert_eq!((state.lines_set, state.gathered), (1, Stops::NONE));
+    assert_eq!(state.channels.held(0), Some(&[1_200, 1_800][..]));
+    assert_eq!(state.gathered, Stops::NONE);
 }
 
 /// What is waited for: kind, command and argument; no image's data.

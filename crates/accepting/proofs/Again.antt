@@ -1,16 +1,15 @@
 -- Registers held to those of the printer that they are read as: a group at a time.
 use Prim.Native.Nat.{ℕ, suc, _+_, _≤_, _<_}
-use mathlib.Core.Path.{_≡_, refl, sym, ap, _∙_}
+use mathlib.Core.Path.{_≡_, sym, ap, _∙_}
 use mathlib.Core.Bool.{Bool, true, _&&_, and-assoc, and-true}
-use mathlib.Core.List.{List, [], _∷_, _++_}
+use mathlib.Core.List.{List, [], _++_, append-nil}
 use native.Mathlib.Omega.{arith}
-use lib.Dec.{eqb}
-use lib.ListN.{length, take, drop, getD, take-append-drop, drop-of-length-le}
-use lib.Seq.{drop-cons, drop-drop}
+use lib.ListN.{length, take, drop, getD, take-append-drop, length-drop}
+use lib.Seq.{drop-cons, drop-drop, take-all}
 use Rattle.printer.specs.Bounds.{accepted}
-use Rattle.registers.specs.Register.{columnCountAt, lineCountAt, gatheredCountAt, registerCount}
-use Rattle.registers.specs.Layout.{listWords, laid}
-use Rattle.registers.specs.Groups.{listIn, settingsIn, stopsIn}
+use Rattle.registers.specs.Register.{columnCountAt, gatheredCountAt, channelCountsAt, channelStopsAt, registerCount}
+use Rattle.registers.specs.Layout.{listWords, channelWords, laid}
+use Rattle.registers.specs.Groups.{listIn, channelsIn, settingsIn, stopsIn}
 use Rattle.accepting.specs.Same.{sameRegisters}
 use Rattle.registers.specs.State.{pendingOf, waitingOf, pendingIn, registersOf, printerIn, sameList, acceptedIn}
 use Rattle.registers.proofs.Laying.{firsts, listed}
@@ -24,12 +23,16 @@ module _ (m : List ℕ) (long : length m ≡ registerCount) where
       let d : drop (from + 33) m ≡ drop 32 (drop (suc from) m) = rw (← e) (sym (drop-drop 32 (suc from) m)) in
       rw (d, take-append-drop 32 (drop (suc from) m)) (sym (drop-cons m from 0 h))
 
-  pub lists-again : listWords (listIn columnCountAt m) (listWords (listIn lineCountAt m) (listWords (listIn gatheredCountAt m) [])) ≡ drop columnCountAt m
-  lists-again =
-      let z : [] ≡ drop registerCount m = sym (drop-of-length-le m {i = registerCount} (omega arith)) in
-      rw z (rw (list-again gatheredCountAt (omega arith), list-again lineCountAt (omega arith)) (list-again columnCountAt (omega arith)))
+  channels-again : channelWords (channelsIn m) [] ≡ drop channelCountsAt m
+  channels-again =
+      let d : drop channelStopsAt m ≡ drop 8 (drop channelCountsAt m) = sym (drop-drop 8 channelCountsAt m) in
+      let k : take 128 (drop channelStopsAt m) ≡ drop channelStopsAt m = take-all 128 (drop channelStopsAt m) (simp length-drop (omega arith)) in
+      rw (k, append-nil (drop channelStopsAt m), d) (take-append-drop 8 (drop channelCountsAt m))
 
-  lists-same : sameList (drop columnCountAt m) (listWords (listIn columnCountAt m) (listWords (listIn lineCountAt m) (listWords (listIn gatheredCountAt m) []))) ≡ true
+  pub lists-again : listWords (listIn columnCountAt m) (listWords (listIn gatheredCountAt m) (channelWords (channelsIn m) [])) ≡ drop columnCountAt m
+  lists-again = rw (channels-again, list-again gatheredCountAt (omega arith)) (list-again columnCountAt (omega arith))
+
+  lists-same : sameList (drop columnCountAt m) (listWords (listIn columnCountAt m) (listWords (listIn gatheredCountAt m) (channelWords (channelsIn m) []))) ≡ true
   lists-same = rw lists-again (same-itself (drop columnCountAt m))
 
   pub same-again : sameList m (registersOf (printerIn m)) ≡ sameRegisters m (pendingOf (waitingOf (pendingIn m)))

@@ -1,3 +1,4 @@
 pub mod Again
 pub mod Tested
 pub mod StopLists
+pub mod ChannelTests

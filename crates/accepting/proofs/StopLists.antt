@@ -5,11 +5,11 @@ use mathlib.Core.Bool.{Bool, true, false}
 use mathlib.Core.List.{List, [], _∷_}
 use native.Mathlib.Numerals.{add-one}
 use native.Mathlib.Omega.{arith}
-use borrow.Author.Tests.{ltb-true, ltb-false, le-leb, lt-leb}
+use borrow.Author.Tests.{ltb-true, ltb-false, leb-true, le-leb, lt-leb}
 use lib.Dec.{leb, ltb}
 use lib.ListN.{length, take, drop, getD, length-take, drop-of-length-le}
 use lib.Seq.{drop-cons, getD-take}
-use Rattle.printer.specs.Tools.{pick, holds}
+use Rattle.printer.specs.Tools.{pick, both, holds}
 use Rattle.printer.specs.Bounds.{ascending, listBounds, lastOf}
 
 -- a test as an order is the test
@@ -26,7 +26,7 @@ module _ (down skip page : ℕ) where
   pub above : ltb (down + skip) page ≡ leb (suc down) (page - skip)
   above = above-by (ltb (down + skip) page) refl
 
--- A loop over the stops that are held: those left, after those passed, are within the bounds just if all are
+-- A loop over the stops that are held: the last one passed, and those left, are within the bounds just if all are
 
 abbrev bounded : (most limit : ℕ) (stops : List ℕ) (count : ℕ) → Bool
 bounded most limit stops count = holds (listBounds most limit (record { stops = stops; count = count }))
@@ -34,20 +34,33 @@ bounded most limit stops count = holds (listBounds most limit (record { stops = 
 pub record Left (most limit : ℕ) (stops : List ℕ) (count end last i : ℕ) : Type 0 where
   pub held : end ≡ min count (length stops)
   pub passed : i ≤ end
-  pub same : bounded most limit stops count ≡ holds (ascending limit last (drop i (take count stops)))
+  pub same : bounded most limit stops count ≡ both (leb last limit) (holds (ascending limit last (drop i (take count stops))))
 
 pub too-many : (most limit : ℕ) (stops : List ℕ) (count : ℕ) → most < count → false ≡ bounded most limit stops count
 too-many most limit stops count h = rw (lt-leb count most h)
 
+and-one : (t : Bool) → both t true ≡ t
+and-one true = refl
+and-one false = refl
+
+refused : (t : Bool) → both t false ≡ false
+refused true = refl
+refused false = refl
+
+-- a stop below one that is within the limit is within it
+lower : (limit last stop : ℕ) (t rest : Bool) → last < stop → leb stop limit ≡ t → both (leb last limit) (both t rest) ≡ both t rest
+lower limit last stop true rest h e = rw (le-leb last limit (omega (arith, leb-true stop limit e)))
+lower limit last stop false rest h e = refused (leb last limit)
+
 module _ {most limit : ℕ} {stops : List ℕ} {count end : ℕ} where
   pub begins : count ≤ most → end ≡ min count (length stops) → Left most limit stops count end 0 0
-  begins h e = record { held = e; passed = omega arith; same = rw (le-leb count most h) }
+  begins h e = record { held = e; passed = omega arith; same = rw (le-leb count most h, le-leb 0 limit (omega arith)) }
 
   module _ {last i : ℕ} (v : Left most limit stops count end last i) where
-    pub ends : end ≤ i → true ≡ bounded most limit stops count
+    pub ends : end ≤ i → leb last limit ≡ bounded most limit stops count
     unfolding ascending
     ends h =
-        sym (v .same ∙ rw (drop-of-length-le (take count stops) {i = i} (simp length-take (omega (arith, v .held)))))
+        sym (v .same ∙ rw (drop-of-length-le (take count stops) {i = i} (simp length-take (omega (arith, v .held)))) (and-one (leb last limit)))
 
     module _ (h : i < end) where
       one : drop i (take count stops) ≡ getD stops i 0 ∷ drop (i + 1) (take count stops)
@@ -58,20 +71,15 @@ module _ {most limit : ℕ} {stops : List ℕ} {count end : ℕ} where
 
       pub too-low : getD stops i 0 ≤ last → false ≡ bounded most limit stops count
       unfolding ascending
-      too-low k = sym (v .same ∙ simp (one, lt-leb (suc last) (getD stops i 0) (omega arith)))
+      too-low k = sym (v .same ∙ rw (one, lt-leb (suc last) (getD stops i 0) (omega arith)) (refused (leb last limit)))
 
-      pub too-high : last < getD stops i 0 → limit < getD stops i 0 → false ≡ bounded most limit stops count
+      pub goes-on : last < getD stops i 0 → Left most limit stops count end (getD stops i 0) (i + 1)
       unfolding ascending
-      too-high k g = sym (v .same ∙ simp (one, le-leb (suc last) (getD stops i 0) k, lt-leb (getD stops i 0) limit g))
-
-      pub goes-on : last < getD stops i 0 → getD stops i 0 ≤ limit
-          → Left most limit stops count end (getD stops i 0) (i + 1)
-      unfolding ascending
-      goes-on k g =
+      goes-on k =
           record {
             held = v .held;
             passed = omega arith;
-            same = v .same ∙ simp (one, le-leb (suc last) (getD stops i 0) k, le-leb (getD stops i 0) limit g);
+            same = v .same ∙ rw (one, le-leb (suc last) (getD stops i 0) k) (lower limit last (getD stops i 0) _ _ k refl);
           }
 
 -- The last stop that is held

@@ -9,7 +9,7 @@ use Rattle.printer.specs.Units.{perInchAcross, perInchDown}
 use Rattle.printer.specs.Records.{styleOf}
 use Rattle.printer.specs.Widths.{advance, columnWidth}
 use Rattle.registers.specs.declared.pending.Pending.{Pending}
-use Rattle.registers.specs.Register.{kindAt, commandAt, argumentAt, imageModeAt, imageByteAt, imageColumnsAt, dotsAcrossAt, dotsDownAt, autoFeedAt, pitchAt, spacingAt, wideAt, wideOnceAt, reducedAt, proportionalAt, boldAt, doubleStrikeAt, italicAt, underlineAt, superscriptAt, subscriptAt, fontAt, countryAt, outlineAt, doubleHeightAt, italicTableAt, downloadAt, draftAt, upperPrintsAt, styleAt, advanceAt, columnWidthAt, linesSetAt}
+use Rattle.registers.specs.Register.{kindAt, commandAt, argumentAt, imageModeAt, imageByteAt, imageColumnsAt, dotsAcrossAt, dotsDownAt, autoFeedAt, pitchAt, spacingAt, wideAt, wideOnceAt, reducedAt, proportionalAt, boldAt, doubleStrikeAt, italicAt, underlineAt, superscriptAt, subscriptAt, fontAt, countryAt, outlineAt, doubleHeightAt, italicTableAt, downloadAt, draftAt, upperPrintsAt, styleAt, advanceAt, columnWidthAt}
 use Rattle.registers.specs.Layout.{flag, pitchNumber}
 use Rattle.registers.specs.Groups.{isSet, resolutionOf, pitchOf, widthIn, settingsIn}
 
@@ -59,5 +59,4 @@ sameDerived m =
 -- all of them, with the numbers of what is waited for
 unfoldable pub sameRegisters : List ℕ → Pending → Bool
 sameRegisters m v =
-    samePending m v && (sameSetup m && (sameWidth m && (sameEmphasis m && (sameFace m && (samePrinting m && (sameDerived m
-    && isFlag (getD m linesSetAt 0)))))))
+    samePending m v && (sameSetup m && (sameWidth m && (sameEmphasis m && (sameFace m && (samePrinting m && sameDerived m)))))

@@ -4,10 +4,15 @@ use crate::same::same_registers;
 use measures::stops;
 use measures::widths::image_bytes;
 use printer::commands::ImageMode;
-use printer::commands::Tabs;
+use printer::commands::Listing;
+use printer::commands::Target;
 use printer::commands::Waiting;
 use printer::state::Printer;
+use printer::stops::Channels;
 use registers::ACROSS;
+use registers::CHANNEL_COUNTS;
+use registers::CHANNEL_STOPS;
+use registers::CHOSEN;
 use registers::COLUMN_COUNT;
 use registers::COLUMN_STOPS;
 use registers::COUNT;
@@ -17,9 +22,6 @@ use registers::GATHERED_COUNT;
 use registers::GATHERED_STOPS;
 use registers::LEFT;
 use registers::LINE;
-use registers::LINE_COUNT;
-use registers::LINE_STOPS;
-use registers::LINES_SET;
 use registers::OUTLINE;
 use registers::PAGE;
 use registers::PAPER_WIDTH;
@@ -30,16 +32,17 @@ use registers::pending::pending_of;
 use registers::pending::waiting_in;
 use registers::stores::whole;
 ghost use mathlib.Core.Path.{_≡_};
-ghost use Prim.Native.Nat.{suc, _+_, _-_, _*_};
+ghost use Prim.Native.Nat.{suc, _+_, _-_, _*_, _<_};
 ghost use lib.Dec.{leb};
-ghost use Rattle.printer.specs.Bounds.{settingsBounds, placeBounds, lastStop, listBounds, columnBounds, lineBounds, gatheringBounds, waitingBounds};
+ghost use Rattle.printer.specs.Bounds.{settingsBounds, placeBounds, lastStop, listBounds, targetBounds, columnBounds, channelsBelow, channelBounds, channelOf, gatheringBounds, listingBounds, waitingBounds};
 ghost use Rattle.printer.specs.Deciding.{mostStops};
 ghost use Rattle.printer.specs.Escapes.{countries};
 ghost use Rattle.printer.specs.Performing.{stopOf};
-ghost use Rattle.printer.specs.Tools.{both, holds, pick};
+ghost use Rattle.printer.specs.Settings.{channelStops};
+ghost use Rattle.printer.specs.Tools.{both, holds};
 ghost use Rattle.printer.specs.Widths.{imageBytes};
-ghost use Rattle.printer.specs.declared.commands.Tabs.{Tabs};
-ghost use Rattle.registers.specs.Groups.{placeIn, settingsIn, stopsIn};
+ghost use Rattle.printer.specs.declared.commands.Target.{Target};
+ghost use Rattle.registers.specs.Groups.{placeIn, settingsIn, channelsIn, stopsIn};
 ghost use Rattle.registers.specs.State.{waitingOf, pendingIn, acceptedIn};
 
 // The countries that ESC R may name.
@@ -90,17 +93,17 @@ fn place_within(m: &[u32; COUNT]) -> bool
 }
 
 // The last stop of a kind that there may be.
-fn last_stop(k: Tabs) -> u32
+fn last_stop(k: Target) -> u32
     ensures { λ r. ⌜ r ≡ lastStop k ⌝ }
 {
     match k {
-        Tabs::Horizontal => 255,
-        Tabs::Vertical => Printer::MOST_PAGE.0 - 1,
+        Target::Columns => 255,
+        Target::Channel(_) => Printer::MOST_PAGE.0 - 1,
     }
 }
 
 // Whether a list obeys the bounds of its kind.
-fn list_within(list: &[u32], count: u32, k: Tabs) -> bool
+fn list_within(list: &[u32], count: u32, k: Target) -> bool
     ensures { λ r. ⌜ r ≡ holds (listBounds (mostStops k) (lastStop k) (record { stops = now (list .entry); count = count })) ⌝ }
 {
     lists::ascend(list, count, stops::most(k), last_stop(k))
@@ -111,24 +114,42 @@ fn columns_within(m: &[u32; COUNT]) -> bool
 {
     let count = m[COLUMN_COUNT];
     let all = &m[..];
-    list_within(&all[COLUMN_STOPS..LINE_COUNT], count, Tabs::Horizontal)
+    list_within(&all[COLUMN_STOPS..GATHERED_COUNT], count, Target::Columns)
 }
 
-// At most so many vertical stops: none if they were never set.
-fn most_lines(set: bool) -> u32
-    ensures { λ r. ⌜ r ≡ pick set (mostStops Tabs.Vertical) 0 ⌝ }
+// Whether a channel obeys the bounds. Only the stops that it holds are looked at.
+fn channel_within(m: &[u32; COUNT], channel: usize) -> bool
+    requires { ⌜ channel < 8 ⌝ }
+    ensures { λ r. ⌜ r ≡ holds (targetBounds (Target.Channel channel) (channelStops (channelsIn (now (m .entry))) channel)) ⌝ }
 {
-    if set { stops::most(Tabs::Vertical) } else { 0 }
-}
-
-fn lines_within(m: &[u32; COUNT]) -> bool
-    ensures { λ r. ⌜ r ≡ holds (lineBounds (stopsIn (now (m .entry)))) ⌝ }
-{
-    let count = m[LINE_COUNT];
-    let most = most_lines(m[LINES_SET] == 1);
-    let limit = last_stop(Tabs::Vertical);
+    let n = whole(m);
+    let count = m[CHANNEL_COUNTS + channel];
+    if count <= 1 {
+        return true;
+    }
+    let from = CHANNEL_STOPS + 16 * channel;
+    let to = from + 16;
     let all = &m[..];
-    lists::ascend(&all[LINE_STOPS..GATHERED_COUNT], count, most, limit)
+    lists::ascend(&all[from..to], count - 1, 16, Printer::MOST_PAGE.0 - 1)
+}
+
+fn channels_each(m: &[u32; COUNT]) -> bool
+    ensures { λ r. ⌜ r ≡ holds (channelsBelow (channelsIn (now (m .entry))) 8) ⌝ }
+{
+    let mut within = true;
+    let mut i: usize = 0;
+    while i < Channels::NUMBER {
+        within = channel_within(m, i) & within;
+        i += 1;
+    }
+    within
+}
+
+// The chosen one is one of the eight.
+fn channels_within(m: &[u32; COUNT]) -> bool
+    ensures { λ r. ⌜ r ≡ holds (channelBounds (channelsIn (now (m .entry)))) ⌝ }
+{
+    (m[CHOSEN] <= 7) & channels_each(m)
 }
 
 // So many lines, in units.
@@ -139,24 +160,43 @@ fn lines_down(n: u8, line: u32) -> u64
 }
 
 // A list byte made a stop: a column, or so many lines.
-fn stop_in(m: &[u32; COUNT], k: Tabs, b: u8) -> u64
+fn stop_in(m: &[u32; COUNT], k: Target, b: u8) -> u64
     ensures { λ r. ⌜ r ≡ stopOf (settingsIn (now (m .entry))) k b ⌝ }
 {
     match k {
-        Tabs::Horizontal => b as u64,
-        Tabs::Vertical => lines_down(b, m[LINE]),
+        Target::Columns => b as u64,
+        Target::Channel(_) => lines_down(b, m[LINE]),
+    }
+}
+
+// The channel that a list sets, if it sets one.
+fn channel_of(k: Target) -> u8
+    ensures { λ r. ⌜ r ≡ channelOf k ⌝ }
+{
+    match k {
+        Target::Columns => 0,
+        Target::Channel(c) => c,
     }
 }
 
 // A list being gathered: its last byte, made a stop, is not below its last stop.
-fn gathering_within(m: &[u32; COUNT], k: Tabs, byte: u8) -> bool
+fn gathering_within(m: &[u32; COUNT], k: Target, byte: u8) -> bool
     ensures { λ r. ⌜ r ≡ holds (gatheringBounds (settingsIn (now (m .entry))) (stopsIn (now (m .entry))) k byte) ⌝ }
 {
     let count = m[GATHERED_COUNT];
     let stop = stop_in(m, k, byte);
     let all = &m[..];
-    (lists::last(&all[GATHERED_STOPS..COUNT], count) as u64 <= stop)
-        & list_within(&all[GATHERED_STOPS..COUNT], count, k)
+    (lists::last(&all[GATHERED_STOPS..CHANNEL_COUNTS], count) as u64 <= stop)
+        & ((channel_of(k) <= 7) & list_within(&all[GATHERED_STOPS..CHANNEL_COUNTS], count, k))
+}
+
+fn listing_within(m: &[u32; COUNT], k: Listing, byte: u8) -> bool
+    ensures { λ r. ⌜ r ≡ holds (listingBounds (settingsIn (now (m .entry))) (stopsIn (now (m .entry))) k byte) ⌝ }
+{
+    match k {
+        Listing::Sets(t) => gathering_within(m, t, byte),
+        Listing::Dropped => true,
+    }
 }
 
 // Image data: some columns, and a byte that a column has.
@@ -174,7 +214,7 @@ fn waiting_within(m: &[u32; COUNT], w: Waiting) -> bool
         Waiting::Nothing => true,
         Waiting::SecondByte => true,
         Waiting::Arguments(_) => true,
-        Waiting::StopList(k, byte) => gathering_within(m, k, byte),
+        Waiting::StopList(k, byte) => listing_within(m, k, byte),
         Waiting::ImageData(mode, k, n) => image_within(mode, k, n),
     }
 }
@@ -192,7 +232,8 @@ pub fn examine(m: &[u32; COUNT]) -> Examined
     let w = waiting_in(m);
     let accepted = same_registers(m, pending_of(w))
         & (settings_within(m)
-            & (place_within(m) & (columns_within(m) & (lines_within(m) & waiting_within(m, w)))));
+            & (place_within(m)
+                & (columns_within(m) & (channels_within(m) & waiting_within(m, w)))));
     Examined {
         accepted,
         waiting: w,

@@ -28,13 +28,10 @@ pub(crate) fn ascend(stops: &[u32], count: u32, most: u32, limit: u32) -> bool
         if stop <= last {
             return false;
         }
-        if limit < stop {
-            return false;
-        }
         last = stop;
         i += 1;
     }
-    true
+    last <= limit
 }
 
 // The last stop held, or 0.

@@ -22,7 +22,6 @@ use registers::IMAGE_MODE;
 use registers::ITALIC;
 use registers::ITALIC_TABLE;
 use registers::KIND;
-use registers::LINES_SET;
 use registers::OUTLINE;
 use registers::PITCH;
 use registers::PROPORTIONAL;
@@ -130,7 +129,5 @@ pub(crate) fn same_registers(m: &[u32; COUNT], v: Pending) -> bool
     same_pending(m, v)
         & (same_setup(m)
             & (same_width(m)
-                & (same_emphasis(m)
-                    & (same_face(m)
-                        & (same_printing(m) & (same_derived(m) & is_flag(m[LINES_SET])))))))
+                & (same_emphasis(m) & (same_face(m) & (same_printing(m) & same_derived(m))))))
 }

@@ -104,6 +104,7 @@ fn other_second(b: u8) -> Second
         b'J' => Second::Begins(Begun::One(One::Feed)),
         b'l' => Second::Begins(Begun::One(One::Margin(Side::Left))),
         b'Q' => Second::Begins(Begun::One(One::Margin(Side::Right))),
+        b'/' => Second::Begins(Begun::One(One::Channel)),
         b'$' => Second::Begins(Begun::FirstOf(Two::Move(Move::Absolute))),
         b'\\' => Second::Begins(Begun::FirstOf(Two::Move(Move::Relative))),
         b'K' => Second::Begins(Begun::FirstOf(Two::Image(Density::Single))),
@@ -113,6 +114,7 @@ fn other_second(b: u8) -> Second
         b'C' => Second::Begins(Begun::PageLength),
         b'i' => Second::Begins(Begun::Advanced),
         b'*' => Second::Begins(Begun::SelectMode),
+        b'b' => Second::Begins(Begun::ListChannel),
         b'D' => Second::List(Tabs::Horizontal),
         b'B' => Second::List(Tabs::Vertical),
         b'@' => Second::Reset,
@@ -206,6 +208,7 @@ fn one_code(c: One) -> u8
         One::Skip => b'N',
         One::Feed => b'J',
         One::Margin(side) => margin_code(side),
+        One::Channel => b'/',
     }
 }
 
@@ -269,5 +272,6 @@ pub fn begun_bytes(w: Begun) -> BegunBytes
         Begun::SelectMode => BegunBytes::Code(b'*'),
         Begun::ColumnsLow(m) => BegunBytes::Argument(b'*', image_mode_number(m)),
         Begun::ColumnsHigh(m, a) => BegunBytes::Arguments(b'*', image_mode_number(m), a),
+        Begun::ListChannel => BegunBytes::Code(b'b'),
     }
 }

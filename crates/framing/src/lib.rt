@@ -4,10 +4,14 @@ pub mod codes;
 use printer::commands::Density;
 use printer::commands::First;
 use printer::commands::ImageMode;
+use printer::commands::Listing;
+use printer::commands::Tabs;
+use printer::commands::Target;
 use printer::commands::Waiting;
 ghost use mathlib.Core.Path.{_≡_};
 ghost use Rattle.printer.specs.Tools.{pick};
-ghost use Rattle.printer.specs.Framing.{readAs, firstOf, densityMode, imageWait};
+ghost use Rattle.printer.specs.Framing.{readAs, firstOf, densityMode, imageWait, openedList};
+ghost use Rattle.printer.specs.declared.commands.ListOpening.{ListOpening};
 ghost use Rattle.framing.specs.Letters.{printsFrom};
 
 // The first byte above 7Fh that is a letter, by whether 80h to 9Fh print.
@@ -67,4 +71,14 @@ pub fn image_wait(m: ImageMode, n: u16) -> Waiting
         return Waiting::Nothing;
     }
     Waiting::ImageData(m, 1, n)
+}
+
+// What ESC D and ESC B set.
+pub fn named_list(t: Tabs) -> Listing
+    ensures { λ r. ⌜ r ≡ openedList (ListOpening.Named t) ⌝ }
+{
+    match t {
+        Tabs::Horizontal => Listing::Sets(Target::Columns),
+        Tabs::Vertical => Listing::Sets(Target::Channel(0)),
+    }
 }

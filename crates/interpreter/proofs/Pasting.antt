@@ -1,11 +1,11 @@
 -- A loop that lays one list over a part of another: its invariant and its turns.
 use Prim.Native.Nat.{ℕ, _+_, _-_, _≤_, _<_}
 use mathlib.Core.Path.{_≡_, sym, ap, _∙_}
-use mathlib.Core.List.{List}
+use mathlib.Core.List.{List, append-assoc}
 use native.Mathlib.Numerals.{add-one}
 use native.Mathlib.Omega.{arith}
-use lib.ListN.{length, getD, set}
-use lib.Seq.{paste, paste-zero, paste-suc, drop-paste, getD-drop}
+use lib.ListN.{length, getD, set, take, List·getD-append}
+use lib.Seq.{paste, paste-zero, paste-suc, drop-paste, getD-drop, getD-take, length-take-le}
 
 -- the first i elements of l, laid over xs from a place on
 pub record Laid (xs : List ℕ) (to : ℕ) (l : List ℕ) (i : ℕ) (ys : List ℕ) : Type 0 where
@@ -30,6 +30,12 @@ module _ {xs : List ℕ} {to : ℕ} {l : List ℕ} {i : ℕ} {ys : List ℕ} (v 
       ap (λ (n : ℕ). getD ys n 0) (sym e) ∙ sym (getD-drop (to + i) ys (k - (to + i)) 0)
       ∙ rw (v .same, drop-paste xs to l i h (v .passed))
       (getD-drop (to + i) xs (k - (to + i)) 0 ∙ ap (λ (n : ℕ). getD xs n 0) e)
+
+  -- and what is before it
+  pub unmoved : (k : ℕ) → k < to → to ≤ length xs → getD ys k 0 ≡ getD xs k 0
+  unmoved k h g =
+      let n : k < length (take to xs) = omega (arith, length-take-le to xs g) in
+      rw (v .same, append-assoc) (List·getD-append (take to xs) _ 0 k n ∙ getD-take to xs k 0 h)
 
   -- the whole of it
   pub whole : length l ≤ i → ys ≡ paste xs to l (length l)

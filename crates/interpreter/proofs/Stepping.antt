@@ -13,8 +13,8 @@ use Rattle.printer.specs.declared.commands.Command.{Command}
 use Rattle.printer.specs.declared.commands.ImageMode.{ImageMode}
 use Rattle.printer.specs.declared.commands.First.{First}
 use Rattle.printer.specs.declared.commands.Frame.{Frame}
+use Rattle.printer.specs.declared.commands.Listing.{Listing}
 use Rattle.printer.specs.declared.commands.Second.{Second}
-use Rattle.printer.specs.declared.commands.Tabs.{Tabs}
 use Rattle.printer.specs.declared.commands.Waiting.{Waiting}
 use Rattle.printer.specs.declared.state.Printer.{Printer}
 use Rattle.registers.specs.declared.pending.Pending.{Pending}
@@ -67,7 +67,7 @@ module _ {p : Printer} {v : Pending} {w : Waiting} {m : List ℕ} (h : Current p
   argument-frame b e f = frame-here b (rw (e, f))
 
   -- a byte of a stop list
-  pub list-frame : (b : ℕ) {t : Tabs} {before : ℕ} → w ≡ Waiting.StopList t before → frameAt p b ≡ listFrame t before b
+  pub list-frame : (b : ℕ) {k : Listing} {before : ℕ} → w ≡ Waiting.StopList k before → frameAt p b ≡ listFrame k before b
   unfolding frame
   list-frame b e = frame-here b (rw e)
 

@@ -6,7 +6,7 @@ use mathlib.Core.List.{List, [], _∷_}
 use lib.Dec.{ltb, eqb}
 use Rattle.printer.specs.Tools.{pick}
 use Rattle.printer.specs.Records.{feedRecord, passedRecord}
-use Rattle.printer.specs.Settings.{edgeOf, downOf, heldIn, withWideOnce}
+use Rattle.printer.specs.Settings.{edgeOf, downOf, heldIn, channelCount, chosenStops, withWideOnce}
 use Rattle.printer.specs.Performing.{Event, done, inside, withParts, perform}
 use Rattle.printer.specs.Deciding.{pagesOfLine, feedAfterReturn, columnFrom, lineFrom, formInside, verticalEvents, vertical, controlEvents}
 use Rattle.printer.specs.declared.commands.Command.{Command}
@@ -49,7 +49,7 @@ module _ (p : Printer) (b : ℕ) where
   edge = edgeOf (p .settings)
 
   abbrev found : Stop
-  found = lineFrom (downOf (p .place)) 1 (heldIn (p .stops .lines))
+  found = lineFrom (downOf (p .place)) 1 (heldIn (chosenStops (p .stops)))
 
   -- SO ends, and another command is performed
 
@@ -66,12 +66,15 @@ module _ (p : Printer) (b : ℕ) where
   abbrev fed : List Event
   fed = inside Control.LineFeed (pagesOfLine ended) ∷ []
 
-  chosen : {t u : Bool} → p .stops .lineset ≡ t → eqb (p .stops .lines .count) 0 ≡ u
-      → vertical p vt ≡ pick t (pick u (done vt 0 ∷ returned) (verticalEvents p vt found)) (done vt 0 ∷ fed)
+  abbrev count : ℕ
+  count = channelCount (p .stops .channels) (p .stops .channels .chosen)
+
+  chosen : {t u : Bool} → eqb count 0 ≡ t → eqb (chosenStops (p .stops) .count) 0 ≡ u
+      → vertical p vt ≡ pick t (done vt 0 ∷ fed) (pick u (done vt 0 ∷ returned) (verticalEvents p vt found))
   unfolding vertical
   chosen {t} e f =
-      ap (λ (x : Bool). pick x (pick (eqb (p .stops .lines .count) 0) (done vt 0 ∷ returned) (verticalEvents p vt found)) (done vt 0 ∷ fed)) e
-      ∙ ap (λ (x : Bool). pick t (pick x (done vt 0 ∷ returned) (verticalEvents p vt found)) (done vt 0 ∷ fed)) f
+      ap (λ (x : Bool). pick x (done vt 0 ∷ fed) (pick (eqb (chosenStops (p .stops) .count) 0) (done vt 0 ∷ returned) (verticalEvents p vt found))) e
+      ∙ ap (λ (x : Bool). pick t (done vt 0 ∷ fed) (pick x (done vt 0 ∷ returned) (verticalEvents p vt found))) f
 
   module _ {r : Stepped} where
     pub stop-done : (k : ℕ) (to : Units) → found ≡ Stop.Found k to → ltb (to .0) edge ≡ true
@@ -96,14 +99,14 @@ module _ (p : Printer) (b : ℕ) where
     pub as-form : Did ended v (inside Control.FormFeed 0 ∷ []) after xs at end ys → Did p v (formInside vt) after xs at end ys
     as-form d = silently-did (done vt 0) _ refl d
 
-    module _ (e : p .stops .lineset ≡ true) where
-      pub as-return : eqb (p .stops .lines .count) 0 ≡ true → Did ended v returned after xs at end ys
+    module _ (e : eqb count 0 ≡ false) where
+      pub as-return : eqb (chosenStops (p .stops) .count) 0 ≡ true → Did ended v returned after xs at end ys
           → Did p v (vertical p vt) after xs at end ys
       as-return f d = rw (chosen e f) (silently-did (done vt 0) _ refl d)
 
-      pub among-stops : eqb (p .stops .lines .count) 0 ≡ false → Did p v (verticalEvents p vt found) after xs at end ys
+      pub among-stops : eqb (chosenStops (p .stops) .count) 0 ≡ false → Did p v (verticalEvents p vt found) after xs at end ys
           → Did p v (vertical p vt) after xs at end ys
       among-stops f d = rw (chosen e f) d
 
-    pub as-line : p .stops .lineset ≡ false → Did ended v fed after xs at end ys → Did p v (vertical p vt) after xs at end ys
+    pub as-line : eqb count 0 ≡ true → Did ended v fed after xs at end ys → Did p v (vertical p vt) after xs at end ys
     as-line e d = rw (chosen e refl) (silently-did (done vt 0) _ refl d)

@@ -8,3 +8,4 @@ pub mod Searching
 pub mod Reaching
 pub mod Leaving
 pub mod Storing
+pub mod Gathering

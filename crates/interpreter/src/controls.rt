@@ -21,7 +21,9 @@ ghost use Rattle.printer.specs.Records.{recordSize};
 ghost use Rattle.printer.specs.Deciding.{attempt, controlEvents};
 ghost use Rattle.printer.specs.declared.commands.Command.{Command};
 ghost use Rattle.printer.specs.declared.state.Printer.{Printer};
-ghost use Rattle.interpreter.specs.Doing.{Does};
+ghost use Rattle.registers.specs.declared.pending.Pending.{Pending};
+ghost use Rattle.registers.specs.Held.{Held};
+ghost use Rattle.interpreter.specs.Doing.{Did, Does};
 
 // SI: not at 15 cpi.
 fn shift_in(m: &mut [u32; COUNT], b: u8, out: &mut [u8], at: usize) -> usize
@@ -53,7 +55,8 @@ pub(crate) fn shift(m: &mut [u32; COUNT], c: Control, b: u8, out: &mut [u8], at:
 // A control byte that is a command; the byte as it came.
 pub(crate) fn control(m: &mut [u32; COUNT], c: Control, b: u8, out: &mut [u8], at: usize) -> usize
     requires { ⌜ at + recordSize ≤ length (now out) ⌝ }
-    ensures { λ n. ⌜ Does (λ (p : Printer). controlEvents p c b) (now (m .entry)) (now (m .exit)) (now (out .entry)) at n (now (out .exit)) ⌝ }
+    ensures { λ n. ⌜ ((p : Printer) (v : Pending) → Held p v (now (m .entry)) → p .stops .channels .chosen ≤ 7
+        → Did p v (controlEvents p c b) (now (m .exit)) (now (out .entry)) at n (now (out .exit))) ⌝ }
 {
     match c {
         Control::CarriageReturn => carriage_return(m, out, at),

@@ -30,6 +30,7 @@ use reading::run;
 use registers::COUNT;
 use registers::pending::pending_of;
 use registers::pending::store_pending;
+use registers::power_on::clear_channels;
 use registers::power_on::power_on;
 use registers::stores::whole;
 ghost use mathlib.Core.Path.{_≡_};
@@ -41,6 +42,8 @@ ghost use Rattle.interpreter.specs.Calls.{ReadsRegisters, StartsRegister
 fn started(m: &mut [u32; COUNT], answer: Answer, setup: Setup) -> Answer
     ensures { λ r. ⌜ (r ≡ answer) × (now (m .exit) ≡ registersOf (powerOn setup)) ⌝ }
 {
+    let n = whole(&*m);
+    clear_channels(&mut *m);
     power_on(&mut *m, setup);
     store_pending(m, pending_of(Waiting::Nothing));
     answer

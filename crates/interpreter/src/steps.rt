@@ -6,6 +6,7 @@ use crate::escapes::mode;
 use crate::escapes::parameter;
 use crate::escapes::switch;
 use crate::lines::feed;
+use crate::lists::choose;
 use crate::lists::end_list;
 use crate::lists::list_byte;
 use crate::lists::open_list;
@@ -18,13 +19,15 @@ use crate::pages::skip;
 use framing::codes::selected_of;
 use framing::density_mode;
 use framing::image_wait;
+use framing::named_list;
 use printer::commands::Begun;
 use printer::commands::First;
+use printer::commands::Listing;
 use printer::commands::One;
 use printer::commands::Page;
 use printer::commands::Second;
 use printer::commands::Selected;
-use printer::commands::Tabs;
+use printer::commands::Target;
 use printer::commands::Two;
 use printer::commands::Waiting;
 use registers::COUNT;
@@ -38,6 +41,7 @@ ghost use Rattle.printer.specs.Records.{recordSize, roomForByte};
 ghost use Rattle.printer.specs.Framing.{firstFrame, secondOf, oneCommand};
 ghost use Rattle.printer.specs.Steps.{frameAt};
 ghost use Rattle.printer.specs.declared.commands.Begun.{Begun};
+ghost use Rattle.printer.specs.declared.commands.Listing.{Listing};
 ghost use Rattle.printer.specs.declared.commands.Waiting.{Waiting};
 ghost use Rattle.printer.specs.declared.state.Printer.{Printer};
 ghost use Rattle.registers.specs.declared.pending.Pending.{Pending};
@@ -126,7 +130,7 @@ pub(crate) fn second_step(
         Second::Begins(w) => waits(Waiting::Arguments(w), at),
         Second::List(t) => {
             open_list(m);
-            waits(Waiting::StopList(t, 0), at)
+            waits(Waiting::StopList(named_list(t), 0), at)
         }
         Second::Unlisted => whole(write_passed(out, at, b, 1)),
     }
@@ -144,6 +148,7 @@ fn one_argument(m: &mut [u32; COUNT], c: One, n: u8, out: &mut [u8], at: usize) 
         One::Skip => skip(m, n, out, at),
         One::Feed => feed(m, n, out, at),
         One::Margin(side) => margin(m, side, n, out, at),
+        One::Channel => choose(m, n, out, at),
     }
 }
 
@@ -208,6 +213,22 @@ fn select_step(b: u8, out: &mut [u8], at: usize) -> Stepping
     }
 }
 
+// The channel of ESC b: above 7 its list is dropped.
+fn channel_step(m: &mut [u32; COUNT], c: u8, out: &mut [u8], at: usize) -> Stepping
+    requires { ⌜ at + recordSize ≤ length (now out) ⌝ }
+    ensures { λ r. ⌜ ((p : Printer) (v : Pending) → Current p v (Waiting.Arguments Begun.ListChannel) (now (m .entry))
+        → StepPromise p v c r (now (m .exit)) (now (out .entry)) at (now (out .exit))) ⌝ }
+{
+    if c <= 7 {
+        open_list(m);
+        return waits(Waiting::StopList(Listing::Sets(Target::Channel(c)), 0), at);
+    }
+    waits(
+        Waiting::StopList(Listing::Dropped, 0),
+        write_passed(out, at, b'b', 2),
+    )
+}
+
 // An argument of an escape, by those so far.
 pub(crate) fn argument_step(
     m: &mut [u32; COUNT],
@@ -231,25 +252,59 @@ pub(crate) fn argument_step(
         Begun::SelectMode => select_step(b, out, at),
         Begun::ColumnsLow(mode) => waits(Waiting::Arguments(Begun::ColumnsHigh(mode, b)), at),
         Begun::ColumnsHigh(mode, a) => waits(image_wait(mode, a as u16 + 256 * (b as u16)), at),
+        Begun::ListChannel => channel_step(m, b, out, at),
     }
 }
 
-// A byte of a stop list: one that is not above the byte before ends it.
-pub(crate) fn list_step(
+// A byte of a list that sets stops: one that is not above the byte before ends it.
+fn set_step(
     m: &mut [u32; COUNT],
-    t: Tabs,
+    t: Target,
     before: u8,
     b: u8,
     out: &mut [u8],
     at: usize,
 ) -> Stepping
     requires { ⌜ at + recordSize ≤ length (now out) ⌝ }
-    ensures { λ r. ⌜ ((p : Printer) (v : Pending) → Current p v (Waiting.StopList t before) (now (m .entry))
+    ensures { λ r. ⌜ ((p : Printer) (v : Pending) → Current p v (Waiting.StopList (Listing.Sets t) before) (now (m .entry))
         → StepPromise p v b r (now (m .exit)) (now (out .entry)) at (now (out .exit))) ⌝ }
 {
     if b <= before {
         end_list(m, t);
         return whole(at);
     }
-    waits(Waiting::StopList(t, b), list_byte(m, t, b, out, at))
+    waits(
+        Waiting::StopList(Listing::Sets(t), b),
+        list_byte(m, t, b, out, at),
+    )
+}
+
+// A byte of a list that is dropped.
+fn dropped_step(before: u8, b: u8, at: usize) -> Stepping
+    ensures { λ r. ⌜ ((p : Printer) (v : Pending) (m out : List ℕ) → Current p v (Waiting.StopList Listing.Dropped before) m
+        → StepPromise p v b r m out at out) ⌝ }
+{
+    if b <= before {
+        return whole(at);
+    }
+    waits(Waiting::StopList(Listing::Dropped, b), at)
+}
+
+// A byte of a stop list.
+pub(crate) fn list_step(
+    m: &mut [u32; COUNT],
+    k: Listing,
+    before: u8,
+    b: u8,
+    out: &mut [u8],
+    at: usize,
+) -> Stepping
+    requires { ⌜ at + recordSize ≤ length (now out) ⌝ }
+    ensures { λ r. ⌜ ((p : Printer) (v : Pending) → Current p v (Waiting.StopList k before) (now (m .entry))
+        → StepPromise p v b r (now (m .exit)) (now (out .entry)) at (now (out .exit))) ⌝ }
+{
+    match k {
+        Listing::Sets(t) => set_step(m, t, before, b, out, at),
+        Listing::Dropped => dropped_step(before, b, at),
+    }
 }

@@ -13,27 +13,29 @@ use printer::settings::Margins;
 use printer::stops::Stop;
 use printer::units::Units;
 use registers::ACROSS;
+use registers::CHANNEL_COUNTS;
+use registers::CHANNEL_STOPS;
+use registers::CHOSEN;
 use registers::COLUMN_COUNT;
 use registers::COLUMN_STOPS;
 use registers::COLUMN_WIDTH;
 use registers::COUNT;
 use registers::DOWN;
 use registers::GATHERED_COUNT;
-use registers::LINE_COUNT;
-use registers::LINE_STOPS;
-use registers::LINES_SET;
 use registers::groups::margins_in;
 ghost use mathlib.Core.Path.{_≡_};
-ghost use Prim.Native.Nat.{ℕ, _+_, _≤_, min};
+ghost use Prim.Native.Nat.{ℕ, _+_, _<_, _≤_, min};
 ghost use lib.Dec.{ltb};
 ghost use lib.ListN.{length, take};
 ghost use Rattle.printer.specs.Records.{recordSize};
-ghost use Rattle.printer.specs.Settings.{downOf, heldIn};
+ghost use Rattle.printer.specs.Settings.{downOf, heldIn, chosenStops};
 ghost use Rattle.printer.specs.Deciding.{lineFrom, formInside, verticalEvents, controlEvents};
 ghost use Rattle.printer.specs.declared.commands.Command.{Command};
 ghost use Rattle.printer.specs.declared.commands.Control.{Control};
 ghost use Rattle.printer.specs.declared.state.Printer.{Printer};
-ghost use Rattle.interpreter.specs.Doing.{Does};
+ghost use Rattle.registers.specs.declared.pending.Pending.{Pending};
+ghost use Rattle.registers.specs.Held.{Held};
+ghost use Rattle.interpreter.specs.Doing.{Did, Does};
 ghost use Rattle.interpreter.specs.Searching.{firstFrom, columnAt, isAhead};
 ghost use Rattle.interpreter.specs.Reaching.{reach};
 
@@ -109,7 +111,7 @@ pub(crate) fn horizontal_tab(m: &mut [u32; COUNT], b: u8, out: &mut [u8], at: us
     let margins = margins_in(&*m);
     let all = &m[..];
     let search = next_column(
-        &all[COLUMN_STOPS..LINE_COUNT],
+        &all[COLUMN_STOPS..GATHERED_COUNT],
         count,
         margins,
         column,
@@ -131,15 +133,24 @@ fn to_next_page(m: &mut [u32; COUNT], out: &mut [u8], at: usize) -> usize
     form_feed(m, out, at)
 }
 
-// VT among stops: to the next one; if there is none, or it is at or past the edge, as FF.
-fn to_next_stop(m: &mut [u32; COUNT], out: &mut [u8], at: usize) -> usize
+// VT among the stops of a channel: to the next one; if there is none, or it is at or past the edge, as FF.
+fn to_next_stop(
+    m: &mut [u32; COUNT],
+    channel: usize,
+    count: u32,
+    out: &mut [u8],
+    at: usize,
+) -> usize
     requires { ⌜ at + recordSize ≤ length (now out) ⌝ }
-    ensures { λ n. ⌜ ((b : ℕ) → Does (λ (p : Printer). verticalEvents p (Command.Control Control.VerticalTab b) (lineFrom (downOf (p .place)) 1 (heldIn (p .stops .lines)))) (now (m .entry)) (now (m .exit)) (now (out .entry)) at n (now (out .exit))) ⌝ }
+    requires { ⌜ channel < 8 ⌝ }
+    ensures { λ n. ⌜ ((b : ℕ) (p : Printer) (v : Pending) → Held p v (now (m .entry)) → channel ≡ p .stops .channels .chosen → count ≡ chosenStops (p .stops) .count
+        → Did p v (verticalEvents p (Command.Control Control.VerticalTab b) (lineFrom (downOf (p .place)) 1 (heldIn (chosenStops (p .stops))))) (now (m .exit)) (now (out .entry)) at n (now (out .exit))) ⌝ }
 {
-    let count = m[LINE_COUNT];
     let down = Units(m[DOWN]);
+    let from = CHANNEL_STOPS + 16 * channel;
+    let to = from + 16;
     let all = &m[..];
-    let search = next_line(&all[LINE_STOPS..GATHERED_COUNT], count, down);
+    let search = next_line(&all[from..to], count, down);
     let Stop::Found(_, place) = search else {
         return to_next_page(m, out, at);
     };
@@ -150,20 +161,24 @@ fn to_next_stop(m: &mut [u32; COUNT], out: &mut [u8], at: usize) -> usize
     to_next_page(m, out, at)
 }
 
-// VT: as LF if stops were never set, as CR if there are none, else to the next one.
+// VT: as LF if the chosen channel was never set, as CR if it has no stops, else to the next one.
 pub(crate) fn vertical_tab(m: &mut [u32; COUNT], out: &mut [u8], at: usize) -> usize
     requires { ⌜ at + recordSize ≤ length (now out) ⌝ }
-    ensures { λ n. ⌜ ((b : ℕ) → Does (λ (p : Printer). controlEvents p Control.VerticalTab b) (now (m .entry)) (now (m .exit)) (now (out .entry)) at n (now (out .exit))) ⌝ }
+    ensures { λ n. ⌜ ((b : ℕ) (p : Printer) (v : Pending) → Held p v (now (m .entry)) → p .stops .channels .chosen ≤ 7
+        → Did p v (controlEvents p Control.VerticalTab b) (now (m .exit)) (now (out .entry)) at n (now (out .exit))) ⌝ }
 {
-    let set = m[LINES_SET] == 1;
-    if set {
-        let none = m[LINE_COUNT] == 0;
-        if none {
-            end_wide_once(&mut *m);
-            return carriage_return(m, out, at);
-        }
-        return to_next_stop(m, out, at);
+    let channel = (m[CHOSEN] % 8) as usize;
+    let count = m[CHANNEL_COUNTS + channel];
+    let never = count == 0;
+    if never {
+        end_wide_once(&mut *m);
+        return line_feed(m, out, at);
     }
-    end_wide_once(&mut *m);
-    line_feed(m, out, at)
+    let stops = count - 1;
+    let none = stops == 0;
+    if none {
+        end_wide_once(&mut *m);
+        return carriage_return(m, out, at);
+    }
+    to_next_stop(m, channel, stops, out, at)
 }

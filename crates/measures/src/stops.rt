@@ -1,5 +1,5 @@
 // Lists of tab stops: how many they hold, and what their bytes mean.
-use printer::commands::Tabs;
+use printer::commands::Target;
 use printer::settings::Settings;
 use printer::units::Units;
 ghost use mathlib.Core.Path.{_≡_};
@@ -8,12 +8,12 @@ ghost use Rattle.printer.specs.Performing.{stopOf};
 ghost use Rattle.printer.specs.Deciding.{mostStops};
 
 // At most so many stops of a kind.
-pub fn most(k: Tabs) -> u32
+pub fn most(k: Target) -> u32
     ensures { λ r. ⌜ r ≡ mostStops k ⌝ }
 {
     match k {
-        Tabs::Horizontal => 32,
-        Tabs::Vertical => 16,
+        Target::Columns => 32,
+        Target::Channel(_) => 16,
     }
 }
 
@@ -25,12 +25,12 @@ fn lines(n: u8, line: Units) -> u64
 }
 
 // A list byte made a stop: a column, or so many lines.
-pub fn stop_of(s: Settings, k: Tabs, b: u8) -> u64
+pub fn stop_of(s: Settings, k: Target, b: u8) -> u64
     ensures { λ r. ⌜ r ≡ stopOf s k b ⌝ }
 {
     let line = s.paper.line;
     match k {
-        Tabs::Horizontal => b as u64,
-        Tabs::Vertical => lines(b, line),
+        Target::Columns => b as u64,
+        Target::Channel(_) => lines(b, line),
     }
 }

@@ -8,7 +8,7 @@ use lib.Dec.{eqb}
 use Rattle.printer.specs.Tools.{both, either, Order, holds}
 use Rattle.printer.specs.Units.{narrowestPaper, widestPaper}
 use Rattle.printer.specs.PowerOn.{powerOn}
-use Rattle.printer.specs.Bounds.{settingsBounds, placeBounds, columnBounds, lineBounds, waitingBounds, ascending, accepted}
+use Rattle.printer.specs.Bounds.{settingsBounds, placeBounds, columnBounds, channelBounds, waitingBounds, ascending, channelsBelow, accepted}
 use Rattle.printer.specs.Calls.{usable}
 use Rattle.printer.specs.Accepted.{Accepted, Typed}
 use Rattle.printer.specs.Types.{Setup, StartSettings, Printer}
@@ -20,7 +20,7 @@ fact-accepted p h =
     both-true _ _ (fact-holds (settingsBounds (p .settings)) (h .settings))
     (both-true _ _ (fact-holds (placeBounds (p .settings) (p .place)) (h .place))
     (both-true _ _ (fact-holds (columnBounds (p .stops)) (h .columns))
-    (both-true _ _ (fact-holds (lineBounds (p .stops)) (h .lines))
+    (both-true _ _ (fact-holds (channelBounds (p .stops .channels)) (h .channels))
     (fact-holds (waitingBounds (p .settings) (p .stops) (p .waiting)) (h .waiting)))))
 
 pub accepted-fact : (p : Printer) → accepted p ≡ true → Accepted p
@@ -29,7 +29,7 @@ accepted-fact p e =
     let s : List Order = settingsBounds (p .settings) in
     let x : List Order = placeBounds (p .settings) (p .place) in
     let c : List Order = columnBounds (p .stops) in
-    let l : List Order = lineBounds (p .stops) in
+    let l : List Order = channelBounds (p .stops .channels) in
     let w : List Order = waitingBounds (p .settings) (p .stops) (p .waiting) in
     let e₁ = both-right (holds s) (both (holds x) (both (holds c) (both (holds l) (holds w)))) e in
     let e₂ = both-right (holds x) (both (holds c) (both (holds l) (holds w))) e₁ in
@@ -38,7 +38,7 @@ accepted-fact p e =
       settings = holds-fact s (both-left (holds s) _ e);
       place = holds-fact x (both-left (holds x) _ e₁);
       columns = holds-fact c (both-left (holds c) _ e₂);
-      lines = holds-fact l (both-left (holds l) _ e₃);
+      channels = holds-fact l (both-left (holds l) _ e₃);
       waiting = holds-fact w (both-right (holds l) (holds w) e₃);
     }
 
@@ -49,14 +49,14 @@ usable-width r u =
 
 -- for every width of the paper
 pub power-on-accepted : (t : Setup) → narrowestPaper ≤ t .width .0 → t .width .0 ≤ widestPaper → Accepted (powerOn t)
-unfolding ascending
+unfolding ascending channelsBelow
 power-on-accepted t h k =
-    record { settings = omega arith; place = omega arith; columns = omega arith; lines = omega arith; waiting = tt }
+    record { settings = omega arith; place = omega arith; columns = omega arith; channels = omega arith; waiting = tt }
 
 pub power-on-typed : (t : Setup) → Typed (powerOn t)
 power-on-typed t =
     record {
       font = omega arith;
-      stops = record { columns = refl; lines = refl; gathered = refl };
+      stops = record { columns = refl; channels = refl; counts = refl; gathered = refl };
       waiting = tt;
     }

@@ -30,11 +30,15 @@ module _ (p : Printer) (b : ℕ) (w : p .waiting ≡ Waiting.Nothing) (s : Stand
   frame-here : frameAt p b ≡ Frame.Whole (Command.Silent (Silent.Escape b)) Waiting.SecondByte
   frame-here = rw w (escape-frame (p .settings .upperprints) b s)
 
+  pub escape-read : (l : List ℕ)
+      → (stateAfter p (b ∷ l) ≡ stateAfter (waitFor p Waiting.SecondByte) l) × (recordsOver p (b ∷ l) ≡ recordsOver (waitFor p Waiting.SecondByte) l)
+  unfolding stateAfter recordsOver stepOf stepRecords stepEvents performAll recordsAll
+  escape-read l = (rw frame-here, rw frame-here)
+
   pub after-escape : (l : List ℕ) (rs : List Record) → stateAfter (waitFor p Waiting.SecondByte) l ≡ waitFor p Waiting.Nothing
       → recordsOver (waitFor p Waiting.SecondByte) l ≡ rs → OnlyWrites p (b ∷ l) rs
-  unfolding stateAfter recordsOver stepOf stepRecords stepEvents performAll recordsAll
   after-escape l rs h r =
-      record { state = rw frame-here (h ∙ ap (waitFor p) (sym w)); records = rw frame-here r }
+      let e = escape-read l in record { state = e .0 ∙ h ∙ ap (waitFor p) (sym w); records = e .1 ∙ r }
 
 pub advanced-commands : (p : Printer) (b : ℕ) → p .waiting ≡ Waiting.Nothing → StandsFor (p .settings .upperprints) b 0x1B → AdvancedCommands p b
 unfolding stateAfter recordsOver stepOf stepRecords stepEvents performAll recordsAll frame lookup coded escapes seconds plainEscapes argumentEscapes otherEscapes modes looks parameters choices

@@ -14,7 +14,7 @@ use Rattle.printer.specs.Decoding.{marksOf, decoded, decodedFirst, decod
 use Rattle.printer.specs.Performing.{performAll, recordsAll}
 use Rattle.printer.specs.Deciding.{attempt, ranged, letterEvents, feedAfterReturn, columnFrom, lineFrom, vertical}
 use Rattle.printer.specs.Steps.{stepEvents, stepOf, stepRecords}
-use Rattle.printer.specs.Bounds.{ascending, lastOf, accepted}
+use Rattle.printer.specs.Bounds.{ascending, lastOf, channelsBelow, accepted}
 use Rattle.printer.specs.Calls.{startAt, startOf, runOf, callOf}
 use Rattle.printer.specs.Cases.{Line, Case, shownLine, linesOfCase, letters, table, CheckedByHand}
 use Rattle.printer.specs.Types.{Record}
@@ -51,5 +51,5 @@ all-lines [] = refl
 all-lines (c ∷ l) = rw (lines-again c, all-lines l)
 
 pub checked-by-hand : CheckedByHand
-unfolding lookup coded isLetter readAs firsts seconds plainEscapes argumentEscapes otherEscapes modes looks parameters choices controls escapes frame styleOf encoded encodedAll marksOf decoded decodedFirst performAll recordsAll attempt ranged letterEvents feedAfterReturn columnFrom lineFrom vertical stepEvents stepOf stepRecords ascending lastOf accepted startOf runOf callOf table letters again
+unfolding lookup coded isLetter readAs firsts seconds plainEscapes argumentEscapes otherEscapes modes looks parameters choices controls escapes frame styleOf encoded encodedAll marksOf decoded decodedFirst performAll recordsAll attempt ranged letterEvents feedAfterReturn columnFrom lineFrom vertical stepEvents stepOf stepRecords ascending lastOf channelsBelow accepted startOf runOf callOf table letters again
 checked-by-hand = record { bytes = refl; cases = all-lines table ∙ refl }

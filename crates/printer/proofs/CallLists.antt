@@ -5,7 +5,7 @@ use mathlib.Core.Bool.{Bool, true, false}
 use mathlib.Core.List.{List, [], _∷_, _++_}
 use native.Mathlib.Omega.{arith}
 use lib.Dec.{ltb, eqb}
-use lib.ListN.{length}
+use lib.ListN.{length, replicate}
 use Rattle.printer.specs.Tools.{pick, Each, Bytes}
 use Rattle.printer.specs.Units.{narrowestPaper, widestPaper}
 use Rattle.printer.specs.Records.{recordSize, roomForByte, encodedAll}
@@ -15,7 +15,7 @@ use Rattle.printer.specs.PowerOn.{powerOn}
 use Rattle.printer.specs.Calls.{isFull, numberOf, setup, setupOf, startedWith, usable, plainStart, startOf, Run, runOf, callOf, StartCall, ReadCall, bytesOf}
 use Rattle.printer.specs.Accepted.{Ours}
 use Rattle.printer.specs.Promises.{ReadingPromise}
-use Rattle.printer.specs.InForce.{Image, noImage}
+use Rattle.printer.specs.InForce.{Opened, noneOpened}
 use Rattle.printer.specs.Reckoning.{origin, begun, Axis, printed}
 use Rattle.printer.specs.Shown.{written}
 use Rattle.printer.specs.Demand3.{Call, started, read, Chain, rulesAfter, occurrences, OwnCall, Own, NotFour, writtenBy, joined, Demand3}
@@ -26,6 +26,7 @@ use Rattle.printer.proofs.KeepingSteps.{steps-ours, power-on-ours}
 use Rattle.printer.proofs.Writing.{steps-fit}
 use Rattle.printer.proofs.Bytes.{decodedAll-encoded, encodedAll-append}
 use Rattle.printer.proofs.Cuts.{gave, kept-promise, call-writes}
+use Rattle.printer.proofs.ChannelLaws.{lists-never}
 use Rattle.printer.proofs.Following.{from}
 use Rattle.printer.proofs.Claims.{ClaimOver, nothing, Keeps, bytes-then}
 
@@ -33,27 +34,27 @@ use Rattle.printer.proofs.Claims.{ClaimOver, nothing, Keeps, bytes-then
 
 -- a start leaves a state of ours, waiting for nothing, at which the reckoning begins
 record Begins (settings : StartSettings) (s : Started) : Type 0 where
-  keeps : Keeps (s .printer) noImage origin origin
-  begins : begun settings ≡ from (s .printer) noImage origin origin
+  keeps : Keeps (s .printer) noneOpened origin origin
+  begins : begun settings ≡ from (s .printer) noneOpened origin origin
   number : numberOf (s .answer) ≤ 3
 
 start-begins : (settings : StartSettings) → Begins settings (startOf settings)
 unfolding startOf
 start-begins settings = go (usable settings) refl
   where
-    keeps : (t : Setup) → narrowestPaper ≤ t .width .0 → t .width .0 ≤ widestPaper → Keeps (powerOn t) noImage origin origin
-    keeps t h k = record { ours = power-on-ours t h k; across = refl; down = refl; image = λ m k n z. cc }
+    keeps : (t : Setup) → narrowestPaper ≤ t .width .0 → t .width .0 ≤ widestPaper → Keeps (powerOn t) noneOpened origin origin
+    keeps t h k = record { ours = power-on-ours t h k; across = refl; down = refl; opened = record { image = λ m k n z. cc; list = λ k b z. cc } }
 
     -- at either resolution
     taken : (t : Bool) → eqb (settings .resolution) 203 ≡ t → usable settings ≡ true
         → Begins settings (startedWith Answer.InputUsed (setup (pick t Resolution.Dots203 Resolution.Dots300) settings))
-    taken true e u = let w = usable-width settings u in record { keeps = keeps _ (w .0) (w .1); begins = rw (u, e); number = omega arith }
-    taken false e u = let w = usable-width settings u in record { keeps = keeps _ (w .0) (w .1); begins = rw (u, e); number = omega arith }
+    taken true e u = let w = usable-width settings u in record { keeps = keeps _ (w .0) (w .1); begins = rw (u, e, lists-never (replicate 128 0)); number = omega arith }
+    taken false e u = let w = usable-width settings u in record { keeps = keeps _ (w .0) (w .1); begins = rw (u, e, lists-never (replicate 128 0)); number = omega arith }
 
     go : (u : Bool) → usable settings ≡ u
         → Begins settings (pick u (startedWith Answer.InputUsed (setupOf settings)) (startedWith Answer.SettingsRefused (setupOf plainStart)))
     go true u = taken (eqb (settings .resolution) 203) refl u
-    go false u = record { keeps = keeps _ (omega arith) (omega arith); begins = rw u; number = omega arith }
+    go false u = record { keeps = keeps _ (omega arith) (omega arith); begins = rw (u, lists-never (replicate 128 0)); number = omega arith }
 
 -- Reading calls
 
@@ -137,13 +138,13 @@ records-fit p (read c ∷ l) m o =
     each-append FitsBytes (recordsOver p (bytesOf c)) (recordsIn (rulesAfter p (read c)) l) (steps-fit p (bytesOf c) b o)
     (records-fit (rulesAfter p (read c)) l (m .1) (steps-ours p (bytesOf c) b o))
 
-calls-claim : (p : Printer) (g : Image) (k j : Axis) (l : List Call) → BytesIn l → Keeps p g k j
+calls-claim : (p : Printer) (g : Opened) (k j : Axis) (l : List Call) → BytesIn l → Keeps p g k j
     → ClaimOver (from p g k j) (recordsIn p l) (occurrences p l)
 unfolding recordsIn BytesIn occurrences printed written
 calls-claim p g k j [] m h = nothing
 calls-claim p g k j (started c ∷ l) m h =
     let b = start-begins (c .settings) in
-    let w = calls-claim (rulesAfter p (started c)) noImage origin origin l m (b .keeps) in
+    let w = calls-claim (rulesAfter p (started c)) noneOpened origin origin l m (b .keeps) in
     rw (b .begins) (record { same = w .same; between = w .between; reckoned = (tt, w .reckoned) })
 calls-claim p g k j (read c ∷ l) m h =
     bytes-then p g k j (bytesOf c) (recordsIn (rulesAfter p (read c)) l) (occurrences (rulesAfter p (read c)) l)
@@ -157,7 +158,7 @@ demand-3 p c l h =
     let b = start-begins (c .settings) in
     let m = bytes-in p (started c ∷ l) h in
     let o = own-list p (started c ∷ l) h in
-    let w = calls-claim q noImage origin origin l m (b .keeps) in
+    let w = calls-claim q noneOpened origin origin l m (b .keeps) in
     record {
       own = o;
       noFour = (rw (o .0) (b .number), not-four q l m (o .1) (b .keeps .ours));

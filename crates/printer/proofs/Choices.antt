@@ -59,6 +59,14 @@ pub each-append : {A : Type 0} (P : A → Type 0) (a b : List A) → Each P a �
 each-append P [] b h k = k
 each-append P (x ∷ a) b h k = (h .0, each-append P a b (h .1) k)
 
+pub each-first : {A : Type 0} (P : A → Type 0) (a b : List A) → Each P (a ++ b) → Each P a
+each-first P [] b h = tt
+each-first P (x ∷ a) b h = (h .0, each-first P a b (h .1))
+
+pub each-rest : {A : Type 0} (P : A → Type 0) (a b : List A) → Each P (a ++ b) → Each P b
+each-rest P [] b h = h
+each-rest P (x ∷ a) b h = each-rest P a b (h .1)
+
 pub each-map : {A : Type 0} {P Q : A → Type 0} → ((a : A) → P a → Q a) → (l : List A) → Each P l → Each Q l
 each-map f [] h = tt
 each-map f (a ∷ l) h = (f a (h .0), each-map f l (h .1))

@@ -1,27 +1,27 @@
 -- Demand 3's claim, for events and bytes: the records are those that the reckoning writes, and what it prints is between the margins.
 use Prim.Native.Nat.{ℕ, zero, suc, _+_, _*_, _-_, _≤_}
-use mathlib.Core.Path.{_≡_, refl}
+use mathlib.Core.Path.{_≡_, refl, sym, subst}
 use mathlib.Core.Bool.{Bool, true, false}
-use mathlib.Core.List.{List, [], _∷_, _++_, map, append-assoc, map-append}
+use mathlib.Core.List.{List, [], _∷_, _++_, map, append-assoc, append-nil, map-append}
 use native.Mathlib.Omega.{arith}
 use lib.Dec.{leb, eqb}
 use Rattle.printer.specs.Tools.{pick, lookup, Each, Bytes, Holds}
 use Rattle.printer.specs.Widths.{imageBytes}
 use Rattle.printer.specs.Settings.{acrossOf, downOf}
-use Rattle.printer.specs.Framing.{frame, openedMode, imageWait, afterImageByte}
+use Rattle.printer.specs.Framing.{frame, openedMode, imageWait, afterImageByte, openedList, listOpened, listFrame}
 use Rattle.printer.specs.Performing.{Event, done, passed, inside, automatic, Writing, silent, letter, imageByte, feed, clear, recordsBy, Effect, controlAt, effectAt, recordsAt, recordsOf, recordsAll, perform, performAll}
 use Rattle.printer.specs.Deciding.{controlNeeds, needsAt, attempt, decide}
 use Rattle.printer.specs.Steps.{frameAt, eventsIn, nextIn, stepEvents, stepRecords, stepOf, stateAfter, recordsOver, eventsOver}
 use Rattle.printer.specs.Accepted.{Ours}
-use Rattle.printer.specs.InForce.{Image, imageOfCode, imageOfMode, opened, byteReceived}
-use Rattle.printer.specs.Reckoning.{Axis, moved, exact, Change, controlChange, changeOf, passedInForce, changeBy, Reckoning, reckon, Printed, printedBy, printedAt, Occurrence, event, printed}
+use Rattle.printer.specs.InForce.{ListSets, setsChannel, setsNothing, Opened, listOfCode, openedSets, imageOfCode, imageOfMode, opened, byteReceived}
+use Rattle.printer.specs.Reckoning.{Axis, moved, exact, Change, controlChange, changeOf, changeBy, Reckoning, reckon, Printed, printedBy, printedAt, Occurrence, event, printed}
 use Rattle.printer.specs.Shown.{Shown, shown, shownAs, shownBy, writes, written}
 use Rattle.printer.specs.Demand3.{Between, NotBelowZero, LeadsOn, LeadsAs, DoesNotFit, Reckoned, ReckonedAll}
-use Rattle.printer.specs.Types.{Begun, Command, Control, Density, Frame, ImageMode, ListPart, Opening, Place, Printer, Record, Settings, Stops, Tabs, Waiting}
+use Rattle.printer.specs.Types.{Begun, Command, Control, Density, Frame, ImageMode, Listing, ListOpening, ListPart, Opening, Place, Printer, Record, Settings, Stops, Tabs, Target, Waiting}
 use Rattle.printer.proofs.Choices.{pick-elim, each-append, each-map}
-use Rattle.printer.proofs.Frames.{NoImage, clash, Framed, begins, single, opensList, opensImage, rests, afterEscape, framed-first, framed-second, framed-argument}
+use Rattle.printer.proofs.Frames.{NoList, NoImage, clash, Framed, begins, single, opensList, opensImage, rests, afterEscape, framed-first, framed-second, framed-argument}
 use Rattle.printer.proofs.Spelling.{EventOf, of-decide}
-use Rattle.printer.proofs.Legal.{forceOf, imageAt, InStep, Overflowing, Done, Legal, LegalAll, attempted}
+use Rattle.printer.proofs.Legal.{forceOf, imageAt, setBy, InStep, Overflowing, Done, Legal, LegalAll, attempted}
 use Rattle.printer.proofs.Keeping.{Writable, Bounded, keep-control, keep-done, keep}
 use Rattle.printer.proofs.KeepingSteps.{bounded, sound, step-ours}
 use Rattle.printer.proofs.NoBytes.{no-byte}
@@ -70,7 +70,7 @@ exact-at k n h = omega arith
 not-below : (k : Axis) (n : ℕ) → At k n → NotBelowZero k
 not-below k n h = omega arith
 
-module _ (p : Printer) (g : Image) (k j : Axis) (f : Tracks p k j) where
+module _ (p : Printer) (g : Opened) (k j : Axis) (f : Tracks p k j) where
   -- what can be written is written as the reckoning says, if it says where the place down is then
   same-writing : (y : Place) (down : Axis) (w : Writing) → exact down ≡ downOf y
       → shown (recordsBy (p .settings) (p .place) y w) ≡ shownAs (from p g k j) down w
@@ -106,35 +106,27 @@ module _ (p : Printer) (g : Image) (k j : Axis) (f : Tracks p k j) where
   does-not-fit reason (feed pages) u = tt
   does-not-fit reason clear u = tt
 
--- the image after an event
-abbrev imageAfter : Image → Printer → Event → Image
-imageAfter g p e = changeBy (forceOf (p .settings) (p .stops) g) e .force .image
+-- what is opened after an event
+abbrev openedAfter : Opened → Printer → Event → Opened
+openedAfter g p e = changeBy (forceOf (p .settings) (p .stops) g) e .force .opened
 
--- an image byte's event is of this image
-abbrev InStepEvent : Event → Image → Type 0
+-- an event of an image or a list is of the one opened
+abbrev InStepEvent : Event → Opened → Type 0
 InStepEvent (done c m) g = InStep c g
 InStepEvent (passed c reason) g = InStep c g
 InStepEvent (inside c m) g = Unit
 InStepEvent (automatic m) g = Unit
 
--- what is passed over leaves the settings and the stops in force
-passed-force : (s : Settings) (t : Stops) (g : Image) (w : Writing) → passedInForce (forceOf s t g) w ≡ forceOf s t (passedInForce (forceOf s t g) w .image)
-passed-force s t g silent = refl
-passed-force s t g (letter b n) = refl
-passed-force s t g (imageByte b part n) = refl
-passed-force s t g (feed pages) = refl
-passed-force s t g clear = refl
-
 -- after an event the reckoning is that of the state after it
-record ReckonedAfter (p : Printer) (g : Image) (k j : Axis) (e : Event) : Type 0 where
+record ReckonedAfter (p : Printer) (g : Opened) (k j : Axis) (e : Event) : Type 0 where
   across : Axis
   down : Axis
-  same : reckon (from p g k j) e ≡ from (perform p e) (imageAfter g p e) across down
+  same : reckon (from p g k j) e ≡ from (perform p e) (openedAfter g p e) across down
   tracks : Tracks (perform p e) across down
 
-module _ (p : Printer) (g : Image) (k j : Axis) (f : Tracks p k j) where
+module _ (p : Printer) (g : Opened) (k j : Axis) (f : Tracks p k j) where
   control-follows : (c : Control) (m : ℕ) → Legal p (inside c m) → Follows (controlChange (forceOf (p .settings) (p .stops) g) c m) (controlAt p c m) k j
-  control-follows c m h = follow-control (p .settings) (p .stops) (p .place) g c m k j h (f .across) (f .down)
+  control-follows c m h = follow-control (p .settings) (p .stops) (p .place) g (f .bounded .stops .channels .0) c m k j h (f .across) (f .down)
 
   command-follows : (c : Command) (m : ℕ) → Done p c m → InStep c g → Follows (changeOf (forceOf (p .settings) (p .stops) g) c m) (effectAt p c m) k j
   command-follows c m h i = follow p g c m k j h i (f .bounded) (f .across) (f .down)
@@ -159,7 +151,7 @@ module _ (p : Printer) (g : Image) (k j : Axis) (f : Tracks p k j) where
         tracks = record { bounded = keep p (done c m) h (f .bounded); across = v .across; down = v .down };
       }
   reckoned (passed c reason) h i =
-      record { across = k; down = j; same = cc (passed-force (p .settings) (p .stops) g (changeOf (forceOf (p .settings) (p .stops) g) c 0 .writing)); tracks = f }
+      record { across = k; down = j; same = refl; tracks = f }
   reckoned (inside c m) h i = reckoned-control c m h
   reckoned (automatic m) h i =
       let r = reckoned-control Control.LineFeed m (h .0) in
@@ -201,6 +193,8 @@ module _ (p : Printer) (g : Image) (k j : Axis) (f : Tracks p k j) where
   leads-as (Command.Move x a b) m h = tt
   leads-as (Command.OpenImage o a b) m h = tt
   leads-as (Command.ImageByte x i b) m h = tt
+  leads-as (Command.Channel n) m h = tt
+  leads-as (Command.OpenList o) m h = tt
   leads-as (Command.List x part) m h = tt
 
   event-claim : (e : Event) → Legal p e → InStepEvent e g
@@ -232,12 +226,12 @@ module _ (p : Printer) (g : Image) (k j : Axis) (f : Tracks p k j) where
 
 -- Events, then what follows them
 
--- what is claimed of all that comes after a state, with this image
-abbrev Rest : Printer → Image → List Record → List Occurrence → Type 0
+-- what is claimed of all that comes after a state, with this opened
+abbrev Rest : Printer → Opened → List Record → List Occurrence → Type 0
 Rest p g rs os = (k j : Axis) → Tracks p k j → ClaimOver (from p g k j) rs os
 
-event-then : (p : Printer) (g : Image) (k j : Axis) (e : Event) (rs : List Record) (os : List Occurrence)
-    → Legal p e → InStepEvent e g → Tracks p k j → Rest (perform p e) (imageAfter g p e) rs os
+event-then : (p : Printer) (g : Opened) (k j : Axis) (e : Event) (rs : List Record) (os : List Occurrence)
+    → Legal p e → InStepEvent e g → Tracks p k j → Rest (perform p e) (openedAfter g p e) rs os
     → ClaimOver (from p g k j) (recordsOf p e ++ rs) (event e ∷ os)
 unfolding printed written
 event-then p g k j e rs os h i f rest =
@@ -246,83 +240,114 @@ event-then p g k j e rs os h i f rest =
     (Reckoned (from p g k j) (event e)) (ReckonedAll (reckon (from p g k j) e) os) (event-claim p g k j f e h i)
     (rw (r .same) (rest (r .across) (r .down) (r .tracks)))
 
--- events of no image
+-- events of no image and no list
 abbrev AlwaysInStep : Event → Type 0
-AlwaysInStep e = (g : Image) → InStepEvent e g
+AlwaysInStep e = (g : Opened) → InStepEvent e g
 
-events-then : (p : Printer) (g : Image) (k j : Axis) (l : List Event) (rs : List Record) (os : List Occurrence)
-    → LegalAll p l → Each AlwaysInStep l → Tracks p k j → ((x : Image) → Rest (performAll p l) x rs os)
+events-then : (p : Printer) (g : Opened) (k j : Axis) (l : List Event) (rs : List Record) (os : List Occurrence)
+    → LegalAll p l → Each AlwaysInStep l → Tracks p k j → ((x : Opened) → Rest (performAll p l) x rs os)
     → ClaimOver (from p g k j) (recordsAll p l ++ rs) (map event l ++ os)
 unfolding performAll recordsAll printed
 events-then p g k j [] rs os h i f rest = rest g k j f
 events-then p g k j (e ∷ l) rs os h i f rest =
     rw append-assoc
     (event-then p g k j e (recordsAll (perform p e) l ++ rs) (map event l ++ os) (h .0) (i .0 g) f
-    (λ k′ j′ t. events-then (perform p e) (imageAfter g p e) k′ j′ l rs os (h .1) (i .1) t rest))
+    (λ k′ j′ t. events-then (perform p e) (openedAfter g p e) k′ j′ l rs os (h .1) (i .1) t rest))
 
--- Images over a byte
+-- What was opened, over a byte
 
--- image data that is waited for is of this image
-abbrev pub ImageAgrees : Waiting → Image → Type 0
-ImageAgrees w g = (m : ImageMode) (k n : ℕ) → w ≡ Waiting.ImageData m k n → g ≡ imageAt m k
+-- image data or a list that is waited for is of what was opened
+pub record OpenedAgrees (w : Waiting) (g : Opened) : Type 0 where
+  pub image : (m : ImageMode) (k n : ℕ) → w ≡ Waiting.ImageData m k n → g .image ≡ imageAt m k
+  pub list : (k : Listing) (b : ℕ) → w ≡ Waiting.StopList k b → g .list ≡ setBy k
 
--- a byte waits, or is a command other than an image's, or opens an image, or is a byte of one
-data Stepping (g : Image) : Frame → Type 0 where
-  waits : {w : Waiting} → ((x : Image) → ImageAgrees w x) → Stepping g (Frame.Waits w)
-  other : {c : Command} {w : Waiting} → ((x : Image) → InStep c x) → ((x : Image) → ImageAgrees w x) → Stepping g (Frame.Whole c w)
-  opens : {o : Opening} {a b : ℕ} {w : Waiting} → ImageAgrees w (imageAt (openedMode o) 1) → Stepping g (Frame.Whole (Command.OpenImage o a b) w)
-  image : {m : ImageMode} {k b : ℕ} {w : Waiting} → g ≡ imageAt m k → ImageAgrees w (byteReceived g)
-      → Stepping g (Frame.Whole (Command.ImageByte m k b) w)
+-- a byte waits, or is a command of no image and no list, or opens an image; or it opens a list or is a byte of either, done or passed over
+data Stepping (g : Opened) : Frame → Type 0 where
+  waits : {w : Waiting} → ((x : Opened) → OpenedAgrees w x) → Stepping g (Frame.Waits w)
+  other : {c : Command} {w : Waiting} → ((x : Opened) → InStep c x) → ((x : Opened) → OpenedAgrees w x) → Stepping g (Frame.Whole c w)
+  opens : {o : Opening} {a b : ℕ} {w : Waiting} → ((x : ListSets) → OpenedAgrees w (record { image = imageAt (openedMode o) 1; list = x }))
+      → Stepping g (Frame.Whole (Command.OpenImage o a b) w)
+  tries : {c : Command} {w : Waiting} (reason : ℕ) → ((p : Printer) → decide p c ≡ attempt p c reason ∷ []) → InStep c g
+      → ((s : Settings) (t : Stops) → OpenedAgrees w (changeOf (forceOf s t g) c 0 .force .opened)) → Stepping g (Frame.Whole c w)
 
-image-wait : (m : ImageMode) (n : ℕ) → ImageAgrees (imageWait m n) (imageAt m 1)
-image-wait m n = pick-elim (λ (w : Waiting). ImageAgrees w (imageAt m 1)) (eqb n 0) (λ _ u i v z. cc) (λ _ u i v z. cc)
+image-wait : (m : ImageMode) (n : ℕ) (x : ListSets) → OpenedAgrees (imageWait m n) (record { image = imageAt m 1; list = x })
+image-wait m n x =
+    pick-elim (λ (w : Waiting). OpenedAgrees w (record { image = imageAt m 1; list = x })) (eqb n 0)
+    (λ _. record { image = λ u i v z. cc; list = λ u v z. cc }) (λ _. record { image = λ u i v z. cc; list = λ u v z. cc })
 
-after-byte : (m : ImageMode) (k n : ℕ) → ImageAgrees (afterImageByte m k n) (byteReceived (imageAt m k))
-after-byte m k n = go (eqb k (imageBytes m))
+after-byte : (m : ImageMode) (k n : ℕ) (x : ListSets) → OpenedAgrees (afterImageByte m k n) (record { image = byteReceived (imageAt m k); list = x })
+after-byte m k n x = go (eqb k (imageBytes m))
   where
-    go : (t : Bool) → ImageAgrees (pick t (imageWait m (n - 1)) (Waiting.ImageData m (suc k) n)) (imageAt m (pick t 1 (suc k)))
-    go true = image-wait m (n - 1)
-    go false = λ u i v z. cc
+    go : (t : Bool) → OpenedAgrees (pick t (imageWait m (n - 1)) (Waiting.ImageData m (suc k) n)) (record { image = imageAt m (pick t 1 (suc k)); list = x })
+    go true = image-wait m (n - 1) x
+    go false = record { image = λ u i v z. cc; list = λ u v z. cc }
 
--- nothing is said where no image data is waited for
+-- nothing is said where neither is waited for
 
-at-rest : (g : Image) → ImageAgrees Waiting.Nothing g
-at-rest g m k n z = cc
+at-rest : (g : Opened) → OpenedAgrees Waiting.Nothing g
+at-rest g = record { image = λ m k n z. cc; list = λ k b z. cc }
 
-at-second : (g : Image) → ImageAgrees Waiting.SecondByte g
-at-second g m k n z = cc
+at-second : (g : Opened) → OpenedAgrees Waiting.SecondByte g
+at-second g = record { image = λ m k n z. cc; list = λ k b z. cc }
 
-at-arguments : (w : Begun) (g : Image) → ImageAgrees (Waiting.Arguments w) g
-at-arguments w g m k n z = cc
+at-arguments : (w : Begun) (g : Opened) → OpenedAgrees (Waiting.Arguments w) g
+at-arguments w g = record { image = λ m k n z. cc; list = λ k b z. cc }
 
-at-list : (t : Tabs) (b : ℕ) (g : Image) → ImageAgrees (Waiting.StopList t b) g
-at-list t b g m k n z = cc
+apart : (c : Command) → NoList c → NoImage c → (g : Opened) → InStep c g
+apart c l i g = record { image = λ m k b z. absurd (clash (i m k b z)); list = λ k x z. absurd (clash (l k x z)) }
 
-apart : (c : Command) → NoImage c → (g : Image) → InStep c g
-apart c i g m k b z = absurd (clash (i m k b z))
+-- a list
 
-list-apart : (t : Tabs) (part : ListPart) (g : Image) → InStep (Command.List t part) g
-list-apart t part g m k b z = cc
+at-list : (k : Listing) (b : ℕ) (g : Opened) → g .list ≡ setBy k → OpenedAgrees (Waiting.StopList k b) g
+at-list k b g e = record { image = λ m i n z. cc; list = λ j n z. let i : k ≡ j = cc in rw i at e }
 
-stepping-framed : (g : Image) (upper : Bool) (l : List ℕ) (f : Frame) → Framed upper l f → Stepping g f
+in-list : (k : Listing) (part : ListPart) (g : Opened) → g .list ≡ setBy k → InStep (Command.List k part) g
+in-list k part g e = record { image = λ m i n z. cc; list = λ j x z. let i : k ≡ j = cc in rw i at e }
+
+-- the reckoning's list is the rules'
+own-list : (o : ListOpening) → openedSets o ≡ setBy (openedList o)
+unfolding listOfCode lookup
+own-list (ListOpening.Named Tabs.Horizontal) = refl
+own-list (ListOpening.Named Tabs.Vertical) = refl
+own-list (ListOpening.Channel m) = go (leb m 7)
+  where
+    go : (t : Bool) → pick t (setsChannel m) setsNothing ≡ setBy (pick t (Listing.Sets (Target.Channel m)) Listing.Dropped)
+    go true = refl
+    go false = refl
+
+stepping-opened : (g : Opened) (o : ListOpening) → Stepping g (listOpened o)
+stepping-opened g o =
+    tries {c = Command.OpenList o} 2 (λ p. refl) (record { image = λ m k b z. cc; list = λ k x z. cc }) (λ s t. at-list (openedList o) 0 _ (own-list o))
+
+stepping-list : (g : Opened) (k : Listing) (before b : ℕ) → g .list ≡ setBy k → Stepping g (listFrame k before b)
+stepping-list g k before b e =
+    pick-elim (Stepping g) (leb b before)
+    (λ _. tries 3 (λ p. refl) (in-list k (ListPart.End b) g e) (λ s t. at-rest _))
+    (λ _. tries 3 (λ p. refl) (in-list k (ListPart.Byte b) g e) (λ s t. at-list k b _ e))
+
+stepping-framed : (g : Opened) (upper : Bool) (l : List ℕ) (f : Frame) → Framed upper l f → Stepping g f
 stepping-framed g upper l (Frame.Waits (Waiting.Arguments w)) (begins e) = waits (at-arguments w)
-stepping-framed g upper l (Frame.Whole c w) (single e k x i rests) = other (apart c i) at-rest
-stepping-framed g upper l (Frame.Whole c w) (single e k x i afterEscape) = other (apart c i) at-second
-stepping-framed g upper l (Frame.Whole (Command.List t ListPart.Open) w) (opensList e) = other (list-apart t ListPart.Open) (at-list t 0)
+stepping-framed g upper l (Frame.Whole c w) (single e k x i rests) = other (apart c x i) at-rest
+stepping-framed g upper l (Frame.Whole c w) (single e k x i afterEscape) = other (apart c x i) at-second
+stepping-framed g upper l (Frame.Whole (Command.OpenList o) w) (opensList e) = stepping-opened g o
 stepping-framed g upper l (Frame.Whole (Command.OpenImage o a b) w) (opensImage e) = opens (image-wait (openedMode o) (a + 256 * b))
 
-stepping : (g : Image) (upper : Bool) (w : Waiting) (b : ℕ) → ImageAgrees w g → Stepping g (frame upper w b)
+own-image : (m : ImageMode) (k b : ℕ) (g : Opened) → g .image ≡ imageAt m k → InStep (Command.ImageByte m k b) g
+own-image m k b g i = record { image = λ u v n z. cc; list = λ u x z. cc }
+
+stepping : (g : Opened) (upper : Bool) (w : Waiting) (b : ℕ) → OpenedAgrees w g → Stepping g (frame upper w b)
 unfolding frame
 stepping g upper Waiting.Nothing b h = stepping-framed g upper _ _ (framed-first upper b)
 stepping g upper Waiting.SecondByte b h = stepping-framed g upper _ _ (framed-second upper b)
 stepping g upper (Waiting.Arguments w) b h = stepping-framed g upper _ _ (framed-argument upper w b)
-stepping g upper (Waiting.StopList t before) b h =
-    pick-elim (Stepping g) (leb b before) (λ _. other (list-apart t _) at-rest) (λ _. other (list-apart t _) (at-list t b))
-stepping g upper (Waiting.ImageData m k n) b h = let e = h m k n refl in image {w = afterImageByte m k n} e (rw e (after-byte m k n))
+stepping g upper (Waiting.StopList k before) b h = stepping-list g k before b (h .list k before refl)
+stepping g upper (Waiting.ImageData m k n) b h =
+    let e = h .image m k n refl in
+    tries {w = afterImageByte m k n} 4 (λ p. refl) (own-image m k b g e) (λ s t. rw e (after-byte m k n (g .list)))
 
 -- A byte, then what follows it
 
-own-in-step : (c : Command) (e : Event) → ((g : Image) → InStep c g) → EventOf c e → AlwaysInStep e
+own-in-step : (c : Command) (e : Event) → ((g : Opened) → InStep c g) → EventOf c e → AlwaysInStep e
 own-in-step c (done x n) h o = rw o h
 own-in-step c (passed x reason) h o = rw o h
 own-in-step c (inside x n) h o = λ g. tt
@@ -354,27 +379,24 @@ own-opened : (o : Opening) → opened o ≡ imageAt (openedMode o) 1
 own-opened (Opening.Named d) = own-density d
 own-opened (Opening.Selected m) = own-mode m
 
--- what is claimed of all that comes after a state, if image data that it waits for is of the image in force
+-- what is claimed of all that comes after a state, if what it waits for is of what was opened
 abbrev RestOf : Printer → Waiting → List Record → List Occurrence → Type 0
-RestOf p w rs os = (g : Image) → ImageAgrees w g → Rest p g rs os
+RestOf p w rs os = (g : Opened) → OpenedAgrees w g → Rest p g rs os
 
-own-image : (m : ImageMode) (k b : ℕ) (g : Image) → g ≡ imageAt m k → InStep (Command.ImageByte m k b) g
-own-image m k b g i u v n z = cc
-
--- an image byte, placed or passed over: it was received
-image-then : (p : Printer) (g : Image) (k j : Axis) (m : ImageMode) (i b : ℕ) (w : Waiting) (rs : List Record) (os : List Occurrence)
-    → g ≡ imageAt m i → ImageAgrees w (byteReceived g) → Tracks p k j → Legal p (attempt p (Command.ImageByte m i b) 4)
-    → RestOf (performAll p (attempt p (Command.ImageByte m i b) 4 ∷ [])) w rs os
-    → ClaimOver (from p g k j) (recordsAll p (attempt p (Command.ImageByte m i b) 4 ∷ []) ++ rs) (event (attempt p (Command.ImageByte m i b) 4) ∷ os)
+-- a command tried, done or passed over: it was received
+tried-then : (p : Printer) (g : Opened) (k j : Axis) (c : Command) (reason : ℕ) (w : Waiting) (rs : List Record) (os : List Occurrence)
+    → InStep c g → OpenedAgrees w (changeOf (forceOf (p .settings) (p .stops) g) c 0 .force .opened) → Tracks p k j → Legal p (attempt p c reason)
+    → RestOf (performAll p (attempt p c reason ∷ [])) w rs os
+    → ClaimOver (from p g k j) (recordsAll p (attempt p c reason ∷ []) ++ rs) (event (attempt p c reason) ∷ os)
 unfolding performAll recordsAll
-image-then p g k j m i b w rs os e s t =
+tried-then p g k j c reason w rs os i s t =
     attempted
     (λ (v : Event). Legal p v → RestOf (perform p v) w rs os → ClaimOver (from p g k j) ((recordsOf p v ++ []) ++ rs) (event v ∷ os))
-    p (Command.ImageByte m i b) 4
-    (λ _ h rest. event-then p g k j (done (Command.ImageByte m i b) 0) rs os h (own-image m i b g e) t (rest (byteReceived g) s))
-    (λ _ h rest. event-then p g k j (passed (Command.ImageByte m i b) 4) rs os h (own-image m i b g e) t (rest (byteReceived g) s))
+    p c reason
+    (λ _ h rest. rw (append-nil (recordsOf p (done c 0))) (event-then p g k j (done c 0) rs os h i t (rest _ s)))
+    (λ _ h rest. event-then p g k j (passed c reason) rs os h i t (rest _ s))
 
-frame-then : (p : Printer) (g : Image) (k j : Axis) (f : Frame) (rs : List Record) (os : List Occurrence)
+frame-then : (p : Printer) (g : Opened) (k j : Axis) (f : Frame) (rs : List Record) (os : List Occurrence)
     → LegalAll p (eventsIn p f) → Stepping g f → Tracks p k j → RestOf (performAll p (eventsIn p f)) (nextIn f) rs os
     → ClaimOver (from p g k j) (recordsAll p (eventsIn p f) ++ rs) (map event (eventsIn p f) ++ os)
 unfolding performAll recordsAll
@@ -382,33 +404,35 @@ frame-then p g k j (Frame.Waits w) rs os h (waits s) t rest = rest g (s g) k j t
 frame-then p g k j (Frame.Whole c w) rs os h (other i s) t rest =
     events-then p g k j (decide p c) rs os h (each-map (λ e. own-in-step c e i) (decide p c) (of-decide p c .own)) t (λ x. rest x (s x))
 frame-then p g k j (Frame.Whole (Command.OpenImage o a b) w) rs os h (opens s) t rest =
-    event-then p g k j (done (Command.OpenImage o a b) 0) rs os (h .0) (λ m i n z. cc) t (rest (opened o) (rw (own-opened o) s))
-frame-then p g k j (Frame.Whole (Command.ImageByte m i b) w) rs os h (image e s) t rest =
-    image-then p g k j m i b w rs os e s t (h .0) rest
+    event-then p g k j (done (Command.OpenImage o a b) 0) rs os (h .0) (record { image = λ m i n z. cc; list = λ i x z. cc }) t
+    (rest _ (rw (own-opened o) (s (g .list))))
+frame-then p g k j (Frame.Whole c w) rs os h (tries reason e i s) t rest =
+    subst (λ (l : List Event). LegalAll p l → RestOf (performAll p l) w rs os → ClaimOver (from p g k j) (recordsAll p l ++ rs) (map event l ++ os))
+    (sym (e p)) (λ h rest. tried-then p g k j c reason w rs os i (s (p .settings) (p .stops)) t (h .0) rest) h rest
 
 -- Bytes, then what follows them
 
--- a state of ours that the reckoning follows, with the image in force
-pub record Keeps (p : Printer) (g : Image) (k j : Axis) : Type 0 where
+-- a state of ours that the reckoning follows, with what was opened
+pub record Keeps (p : Printer) (g : Opened) (k j : Axis) : Type 0 where
   pub ours : Ours p
   pub across : At k (acrossOf (p .place))
   pub down : At j (downOf (p .place))
-  pub image : ImageAgrees (p .waiting) g
+  pub opened : OpenedAgrees (p .waiting) g
 
 abbrev pub After : Printer → List Record → List Occurrence → Type 0
-After p rs os = (g : Image) (k j : Axis) → Keeps p g k j → ClaimOver (from p g k j) rs os
+After p rs os = (g : Opened) (k j : Axis) → Keeps p g k j → ClaimOver (from p g k j) rs os
 
-byte-then : (p : Printer) (g : Image) (k j : Axis) (b : ℕ) (rs : List Record) (os : List Occurrence) → b ≤ 255 → Keeps p g k j
+byte-then : (p : Printer) (g : Opened) (k j : Axis) (b : ℕ) (rs : List Record) (os : List Occurrence) → b ≤ 255 → Keeps p g k j
     → After (stepOf p b) rs os → ClaimOver (from p g k j) (stepRecords p b ++ rs) (map event (stepEvents p b) ++ os)
 unfolding stepRecords stepEvents stepOf
 byte-then p g k j b rs os m h rest =
     let o = h .ours in
     frame-then p g k j (frameAt p b) rs os (sound p b m (o .typed) (o .accepted) .legal)
-    (stepping g (p .settings .upperprints) (p .waiting) b (h .image))
+    (stepping g (p .settings .upperprints) (p .waiting) b (h .opened))
     (record { bounded = bounded p (o .typed) (o .accepted); across = h .across; down = h .down })
-    (λ x s k′ j′ t. rest x k′ j′ (record { ours = step-ours p b m o; across = t .across; down = t .down; image = s }))
+    (λ x s k′ j′ t. rest x k′ j′ (record { ours = step-ours p b m o; across = t .across; down = t .down; opened = s }))
 
-pub bytes-then : (p : Printer) (g : Image) (k j : Axis) (l : List ℕ) (rs : List Record) (os : List Occurrence) → Bytes l → Keeps p g k j
+pub bytes-then : (p : Printer) (g : Opened) (k j : Axis) (l : List ℕ) (rs : List Record) (os : List Occurrence) → Bytes l → Keeps p g k j
     → After (stateAfter p l) rs os → ClaimOver (from p g k j) (recordsOver p l ++ rs) (map event (eventsOver p l) ++ os)
 unfolding recordsOver eventsOver stateAfter
 bytes-then p g k j [] rs os m h rest = rest g k j h

@@ -2,7 +2,7 @@
 use Prim.Native.Nat.{ℕ, zero, suc, _+_, _*_, _-_, _/_, _%_, _≤_, _<_}
 use mathlib.Core.Path.{_≡_, refl, sym, ap}
 use mathlib.Core.Bool.{Bool, true, false}
-use mathlib.Core.List.{[], _∷_}
+use mathlib.Core.List.{[], _∷_, append-nil}
 use mathlib.Core.Logic.{_⊎_, inl, inr, ⊎-elim}
 use native.Mathlib.Omega.{arith}
 use native.Mathlib.Nat.{div-add-mod'}
@@ -10,21 +10,22 @@ use lib.Dec.{leb, ltb, eqb}
 use borrow.Author.Tests.{leb-true, leb-false, ltb-true, ltb-false, le-leb, lt-leb, eq-eqb, ne-eqb}
 use Rattle.printer.specs.Tools.{pick, bit, within, _upTo_, Holds}
 use Rattle.printer.specs.Widths.{imageBytes}
-use Rattle.printer.specs.Settings.{leftOf, rightOf, pageOf, skipOf, edgeOf, relativeStep, acrossOf, downOf}
+use Rattle.printer.specs.Settings.{leftOf, rightOf, pageOf, skipOf, lineOf, edgeOf, relativeStep, acrossOf, downOf, heldIn}
 use Rattle.printer.specs.Escapes.{switches, switchedOn, modeRow, parameterRow, lookSettings}
-use Rattle.printer.specs.Performing.{stopOf, relativeMove, columnPart, listStops, Effect, effectOfControl, effectAt}
+use Rattle.printer.specs.Performing.{stopOf, stopsOf, choosing, relativeMove, columnPart, listStops, Effect, effectOfControl, effectAt}
 use Rattle.printer.specs.Deciding.{mostStops, controlNeeds, relativeNeeds, listNeeds}
 use Rattle.printer.specs.Accepted.{StopsTyped}
-use Rattle.printer.specs.InForce.{Image, InForce, odd, hasBit, modeInForce, parameterInForce, ownStop, listInForce}
+use Rattle.printer.specs.InForce.{Opened, InForce, odd, hasBit, modeInForce, parameterInForce, chosenInForce, ownStop, listInForce}
 use Rattle.printer.specs.Reckoning.{moves, Axis, moved, relativeMotion, Change, controlChange, changeOf, Reckoning}
-use Rattle.printer.specs.Types.{Command, Control, ImageMode, ListPart, Look, Mode, Move, Page, Parameter, Place, Printer, Settings, Side, Stops, Tabs}
+use Rattle.printer.specs.Types.{Command, Control, ImageMode, Listing, ListPart, Look, Mode, Move, Page, Parameter, Place, Printer, Settings, Side, Stops, Target}
 use Rattle.printer.proofs.Choices.{either-elim, within-fact}
 use Rattle.printer.proofs.StopLists.{one-more}
-use Rattle.printer.proofs.Legal.{forceOf, InStep, Done}
+use Rattle.printer.proofs.ChannelLaws.{list-of, lists-set, lists-chosen, lists-never}
+use Rattle.printer.proofs.Legal.{forceOf, setBy, InStep, Given, Done}
 use Rattle.printer.proofs.Keeping.{WithinBounds, Bounded}
 
--- the reckoning at a state, with an image and two places of its own
-abbrev pub from : Printer → Image → Axis → Axis → Reckoning
+-- the reckoning at a state, with what was opened and two places of its own
+abbrev pub from : Printer → Opened → Axis → Axis → Reckoning
 from p g k j =
     record {
       force = forceOf (p .settings) (p .stops) g;
@@ -61,9 +62,9 @@ own-bit k n f g = go (leb k (n % (2 * k))) refl
 
 -- what is in force is what settings and stops say
 abbrev pub Agrees : InForce → Settings → Stops → Type 0
-Agrees f s t = f ≡ forceOf s t (f .image)
+Agrees f s t = f ≡ forceOf s t (f .opened)
 
-module _ (s : Settings) (t : Stops) (g : Image) where
+module _ (s : Settings) (t : Stops) (g : Opened) where
   abbrev pub here : InForce
   here = forceOf s t g
 
@@ -90,20 +91,27 @@ module _ (s : Settings) (t : Stops) (g : Image) where
   agree-look (Look.Switch w) = refl
   agree-look (Look.Choice c m) = refl
 
-  own-stop : (k : Tabs) (b : ℕ) → ownStop here k b ≡ stopOf s k b
-  own-stop Tabs.Horizontal b = refl
-  own-stop Tabs.Vertical b = refl
+  most-fit : (k : Target) → mostStops k ≤ 32
+  most-fit Target.Columns = omega arith
+  most-fit (Target.Channel m) = omega arith
 
-  most-fit : (k : Tabs) → mostStops k ≤ 32
-  most-fit Tabs.Horizontal = omega arith
-  most-fit Tabs.Vertical = omega arith
+  agree-channel : (m : ℕ) → Agrees (chosenInForce here m) s (stopsOf (t .columns) (choosing (t .channels) m) (t .gathered))
+  agree-channel m = rw (lists-chosen (t .channels) m)
 
-  agree-list : (k : Tabs) (part : ListPart) → StopsTyped t → Holds (listNeeds s t k part) → Agrees (listInForce here k part) s (listStops s t k part)
-  agree-list k ListPart.Open y h = refl
-  agree-list k (ListPart.Byte b) y h =
-      rw (own-stop k b, one-more (t .gathered .count) (t .gathered .stops) (stopOf s k b) (omega (arith, y .gathered, most-fit k)))
-  agree-list Tabs.Horizontal (ListPart.End b) y h = refl
-  agree-list Tabs.Vertical (ListPart.End b) y h = refl
+  own-stop : (k : Target) (b : ℕ) → ownStop (lineOf s) (setBy (Listing.Sets k)) b ≡ stopOf s k b ∷ []
+  own-stop Target.Columns b = refl
+  own-stop (Target.Channel m) b = refl
+
+  agree-list : (k : Listing) (part : ListPart) → g .list ≡ setBy k → StopsTyped t → Given s t (Command.List k part) → Holds (listNeeds s t k part)
+      → Agrees (listInForce here part) s (listStops s t k part)
+  agree-list (Listing.Sets k) (ListPart.Byte b) e y v h =
+      rw (e, own-stop k b, one-more (t .gathered .count) (t .gathered .stops) (stopOf s k b) (omega (arith, y .gathered, most-fit k)))
+  agree-list (Listing.Sets Target.Columns) (ListPart.End b) e y v h = rw e
+  agree-list (Listing.Sets (Target.Channel m)) (ListPart.End b) e y v h =
+      let u = v .end (Target.Channel m) b refl in
+      rw (e, lists-set (t .channels) m (t .gathered) (y .channels) (y .counts) (y .gathered) (omega arith) (u .1))
+  agree-list Listing.Dropped (ListPart.Byte b) e y v h = rw (e, append-nil (heldIn (t .gathered)))
+  agree-list Listing.Dropped (ListPart.End b) e y v h = rw e
 
 -- The reckoned places, and what is in force, after a command
 
@@ -122,7 +130,7 @@ follows : {f : Change} {l : Effect} {k j : Axis} → Agrees (f .force) (l .setti
     → At (moved j (f .down)) (downOf (l .place)) → f .writing ≡ l .writing → Follows f l k j
 follows e a d w = record { force = e; across = a; down = d; writing = w }
 
-module _ (s : Settings) (t : Stops) (x : Place) (g : Image) where
+module _ (s : Settings) (t : Stops) (x : Place) (g : Opened) (q : t .channels .chosen ≤ 7) where
   pub follow-control : (c : Control) (m : ℕ) (k j : Axis) → Holds (controlNeeds s t x c m) → At k (acrossOf x) → At j (downOf x)
       → Follows (controlChange (forceOf s t g) c m) (effectOfControl s t x c m) k j
   follow-control Control.CarriageReturn m k j h a d = follows refl refl d refl
@@ -132,7 +140,7 @@ module _ (s : Settings) (t : Stops) (x : Place) (g : Image) where
   follow-control Control.HorizontalTab zero k j h a d = follows refl a d refl
   follow-control Control.HorizontalTab (suc m) k j h a d = follows refl refl d refl
   follow-control Control.VerticalTab zero k j h a d = follows refl a d refl
-  follow-control Control.VerticalTab (suc m) k j h a d = follows refl refl refl refl
+  follow-control Control.VerticalTab (suc m) k j h a d = follows refl refl (rw (list-of (t .channels) (t .channels .chosen) (omega arith))) refl
   follow-control Control.Backspace m k j h a d = follows refl (omega arith) d refl
   follow-control Control.ShiftOut m k j h a d = follows refl a d refl
   follow-control Control.ShiftIn m k j h a d = follows refl a d refl
@@ -155,7 +163,7 @@ module _ (k : Axis) (x n m step : ℕ) (e : At k x) where
       → At (record { set = k .set; forth = k .forth + n * step; back = k .back + 0x10000 * step }) (x - m * step)
   forth-back h l = omega (arith, ap (λ (v : ℕ). v * step) h)
 
-follow-relative : (s : Settings) (t : Stops) (x : Place) (g : Image) (a b : ℕ) (k : Axis) → a ≤ 255 → b ≤ 255 → Holds (relativeNeeds s x (a + 256 * b))
+follow-relative : (s : Settings) (t : Stops) (x : Place) (g : Opened) (a b : ℕ) (k : Axis) → a ≤ 255 → b ≤ 255 → Holds (relativeNeeds s x (a + 256 * b))
     → At k (acrossOf x) → At (moved k (relativeMotion (forceOf s t g) a b)) (relativeMove (acrossOf x) (a + 256 * b) (relativeStep s))
 follow-relative s t x g a b k ha hb h e = go (ltb (a + 256 * b) 0x8000) refl h
   where
@@ -183,14 +191,14 @@ own-part ImageMode.Crt24 k = refl
 own-part ImageMode.Triple24 k = refl
 own-part ImageMode.Hex24 k = refl
 
-pub follow : (p : Printer) (g : Image) (c : Command) (m : ℕ) (k j : Axis) → Done p c m → InStep c g → Bounded p
+pub follow : (p : Printer) (g : Opened) (c : Command) (m : ℕ) (k j : Axis) → Done p c m → InStep c g → Bounded p
     → At k (acrossOf (p .place)) → At j (downOf (p .place))
     → Follows (changeOf (forceOf (p .settings) (p .stops) g) c m) (effectAt p c m) k j
 follow p g (Command.Letter b) m k j h i f a d = follows refl (omega arith) d refl
-follow p g (Command.Control c b) m k j h i f a d = follow-control (p .settings) (p .stops) (p .place) g c m k j (h .needs) a d
+follow p g (Command.Control c b) m k j h i f a d = follow-control (p .settings) (p .stops) (p .place) g (f .stops .channels .0) c m k j (h .needs) a d
 follow p g (Command.Refused r) m k j h i f a d = follows refl a d refl
 follow p g (Command.Silent c) m k j h i f a d = follows refl a d refl
-follow p g Command.Reset m k j h i f a d = follows refl refl refl refl
+follow p g Command.Reset m k j h i f a d = follows (rw (lists-never (p .stops .channels .stops))) refl refl refl
 follow p g (Command.Mode c) m k j h i f a d = follows (agree-mode (p .settings) (p .stops) g c) a d refl
 follow p g (Command.Parameter c v) m k j h i f a d =
     follows (agree-parameter (p .settings) (p .stops) g c v (h .range .parameter c v refl)) a d refl
@@ -206,5 +214,8 @@ follow p g (Command.Move Move.Relative u b) m k j h i f a d =
     follows refl (follow-relative (p .settings) (p .stops) (p .place) g u b k (h .bytes .1 .0) (h .bytes .1 .1 .0) (h .needs) a) d refl
 follow p g (Command.OpenImage u b v) m k j h i f a d = follows refl a d refl
 follow p g (Command.ImageByte u v b) m k j h i f a d =
-    let e = i u v b refl in follows refl (rw e (omega arith)) d (rw (e, own-part u v))
-follow p g (Command.List u part) m k j h i f a d = follows (agree-list (p .settings) (p .stops) g u part (f .stops .typed) (h .needs)) a d refl
+    let e = i .image u v b refl in follows refl (rw e (omega arith)) d (rw (e, own-part u v))
+follow p g (Command.Channel v) m k j h i f a d = follows (agree-channel (p .settings) (p .stops) g v) a d refl
+follow p g (Command.OpenList u) m k j h i f a d = follows refl a d refl
+follow p g (Command.List u part) m k j h i f a d =
+    follows (agree-list (p .settings) (p .stops) g u part (i .list u part refl) (f .stops .typed) (h .given) (h .needs)) a d refl

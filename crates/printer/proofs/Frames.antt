@@ -11,10 +11,10 @@ use borrow.Author.Tests.{eqb-true, eqb-false, leb-false, leb-true, le-leb, ltb-t
 use Rattle.printer.specs.Tools.{both, within}
 use Rattle.printer.specs.Escapes.{modes, looks, parameters, choices}
 use Rattle.printer.specs.Codes.{controlCode, oneCode, twoCode, begunBy, firstCode, secondCode, selectedNumber, firsts, seconds, plainEscapes, argumentEscapes, otherEscapes, imageModes, spelt}
-use Rattle.printer.specs.Framing.{isLetter, readAs, controls, escapes, selections, firstOf, secondOf, selectedOf, oneCommand, twoCommand, afterTwo, openedMode, imageWait, firstFrame, secondFrame, advancedFrame, modeFrame, selectedFrame, continued, frame}
+use Rattle.printer.specs.Framing.{isLetter, readAs, controls, escapes, selections, firstOf, secondOf, selectedOf, oneCommand, twoCommand, afterTwo, openedMode, imageWait, listOpened, firstFrame, secondFrame, advancedFrame, modeFrame, selectedFrame, continued, frame}
 use Rattle.printer.specs.Deciding.{reasonOf}
 use Rattle.printer.specs.Spelling.{pending, among, listedControls, listedEscapes, listedImageModes, StandsFor, Unlisted, Begins, Classified}
-use Rattle.printer.specs.Types.{Begun, Command, Control, First, Frame, ImageMode, ListPart, Look, One, Opening, Page, Refused, Second, Selected, Silent, Tabs, Two, Waiting}
+use Rattle.printer.specs.Types.{Begun, Command, Control, First, Frame, ImageMode, Listing, ListOpening, ListPart, Look, One, Opening, Page, Refused, Second, Selected, Silent, Two, Waiting}
 use Rattle.printer.proofs.Choices.{pick-elim, either-elim, either-left, either-right, within-fact}
 use Rattle.printer.proofs.Listed.{found}
 
@@ -36,7 +36,7 @@ clash e = omega arith
 
 -- no byte of a list, and none of an image
 abbrev pub NoList : Command → Type 0
-NoList c = (k : Tabs) (x : ListPart) → c ≡ Command.List k x → Clash
+NoList c = (k : Listing) (x : ListPart) → c ≡ Command.List k x → Clash
 
 abbrev pub NoImage : Command → Type 0
 NoImage c = (m : ImageMode) (k b : ℕ) → c ≡ Command.ImageByte m k b → Clash
@@ -53,8 +53,7 @@ pub data Framed (upper : Bool) (l : List ℕ) : Frame → Type 0 where
   -- a command by itself
   single : {c : Command} {w : Waiting} → spelt c ≡ l → Classified upper c → NoList c → NoImage c → Resting w → Framed upper l (Frame.Whole c w)
   -- one that opens a list, or an image
-  opensList : {k : Tabs} → spelt (Command.List k ListPart.Open) ≡ l
-      → Framed upper l (Frame.Whole (Command.List k ListPart.Open) (Waiting.StopList k 0))
+  opensList : {o : ListOpening} → spelt (Command.OpenList o) ≡ l → Framed upper l (listOpened o)
   opensImage : {o : Opening} {a b : ℕ} → spelt (Command.OpenImage o a b) ≡ l
       → Framed upper l (Frame.Whole (Command.OpenImage o a b) (imageWait (openedMode o) (a + 256 * b)))
 
@@ -274,7 +273,7 @@ listed-framed upper (Second.Mode c) b q e =
 listed-framed upper (Second.Switch w) b q e =
     alone upper _ (Command.Look (Look.Switch w)) (rw e) (plain (λ n z. cc) (λ k n z. cc) (λ r z. cc) (λ k z. cc)) (λ k x z. cc) (λ m i n z. cc)
 listed-framed upper (Second.Begins w) b q e = begun-framed upper w b q e
-listed-framed upper (Second.List t) b q e = opensList {k = t} (rw e)
+listed-framed upper (Second.List t) b q e = opensList {o = ListOpening.Named t} (rw e)
 listed-framed upper Second.Unlisted b q e = absurd (clash cc)
 
 second-framed : (upper : Bool) (b : ℕ) → Framed upper (b ∷ []) (secondFrame (secondOf b) b)
@@ -296,6 +295,8 @@ one-framed upper One.Feed n =
     alone upper _ (Command.Feed n) refl (plain (λ m z. cc) (λ k m z. cc) (λ r z. cc) (λ k z. cc)) (λ k x z. cc) (λ m i n z. cc)
 one-framed upper (One.Margin side) n =
     alone upper _ (Command.Margin side n) refl (plain (λ m z. cc) (λ k m z. cc) (λ r z. cc) (λ k z. cc)) (λ k x z. cc) (λ m i n z. cc)
+one-framed upper One.Channel n =
+    alone upper _ (Command.Channel n) refl (plain (λ m z. cc) (λ k m z. cc) (λ r z. cc) (λ k z. cc)) (λ k x z. cc) (λ m i n z. cc)
 
 two-framed : (upper : Bool) (c : Two) (a b : ℕ)
     → Framed upper (twoCode c ∷ a ∷ b ∷ []) (Frame.Whole (twoCommand c a b) (afterTwo c (a + 256 * b)))
@@ -354,6 +355,7 @@ argument-framed upper (Begun.SecondOf c a) b = two-framed upper c a b
 argument-framed upper Begun.SelectMode b = select-framed upper b
 argument-framed upper (Begun.ColumnsLow m) b = begins refl
 argument-framed upper (Begun.ColumnsHigh m a) b = opensImage {o = Opening.Selected m} refl
+argument-framed upper Begun.ListChannel b = opensList {o = ListOpening.Channel b} refl
 
 -- A byte after nothing, after an escape's first byte, and an argument
 
@@ -371,8 +373,11 @@ framed-argument upper w b = argument-framed upper w b
 
 -- Bytes of lists and images: of them nothing is said
 
-pub list-classified : (upper : Bool) (t : Tabs) (part : ListPart) → Classified upper (Command.List t part)
-list-classified upper t part = unclassified upper _ (plain (λ n z. cc) (λ k n z. cc) (λ r z. cc) (λ k z. cc))
+pub open-list-classified : (upper : Bool) (o : ListOpening) → Classified upper (Command.OpenList o)
+open-list-classified upper o = unclassified upper _ (plain (λ n z. cc) (λ k n z. cc) (λ r z. cc) (λ k z. cc))
+
+pub list-classified : (upper : Bool) (k : Listing) (part : ListPart) → Classified upper (Command.List k part)
+list-classified upper k part = unclassified upper _ (plain (λ n z. cc) (λ k n z. cc) (λ r z. cc) (λ k z. cc))
 
 pub open-classified : (upper : Bool) (o : Opening) (a b : ℕ) → Classified upper (Command.OpenImage o a b)
 open-classified upper o a b = unclassified upper _ (plain (λ n z. cc) (λ k n z. cc) (λ r z. cc) (λ k z. cc))

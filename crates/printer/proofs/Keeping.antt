@@ -6,22 +6,24 @@ use mathlib.Core.List.{List, [], _∷_}
 use native.Mathlib.Omega.{arith}
 use native.Mathlib.Nat.{mod-lt, div-add-mod', mul-le-mul-left}
 use lib.Dec.{ltb, eqb}
-use lib.ListN.{length-set}
+use lib.ListN.{length, length-set}
 use borrow.Author.Tests.{leb-true}
 use Rattle.printer.specs.Tools.{pick, _upTo_, Holds, Bytes}
 use Rattle.printer.specs.Widths.{base, doubleWidth, advance, imageStep, imageBytes}
 use Rattle.printer.specs.Settings.{leftOf, rightOf, edgeOf, relativeStep, acrossOf, downOf, at}
+use Rattle.printer.specs.PowerOn.{noStops}
 use Rattle.printer.specs.Escapes.{modeRow, parameterRow, choiceRow, lookTakes, lookSettings}
 use Rattle.printer.specs.Codes.{spelt}
-use Rattle.printer.specs.Performing.{Event, done, passed, inside, automatic, Writing, silent, letter, imageByte, feed, clear, controlEffect, effectAt, lastOfColumn, columnMove, columnPart, listStops, relativeMove, perform, performAll}
+use Rattle.printer.specs.Performing.{Event, done, passed, inside, automatic, Writing, silent, letter, imageByte, feed, clear, controlEffect, effectAt, lastOfColumn, columnMove, columnPart, gathering, stopOf, oneMore, listStops, relativeMove, perform, performAll}
 use Rattle.printer.specs.Deciding.{relativeNeeds, controlNeeds}
-use Rattle.printer.specs.Bounds.{settingsBounds, placeBounds, columnBounds, lineBounds}
+use Rattle.printer.specs.Bounds.{settingsBounds, placeBounds, columnBounds, channelBounds}
 use Rattle.printer.specs.Accepted.{StopsTyped}
-use Rattle.printer.specs.Types.{Choice, Command, Control, ImageMode, ListPart, Look, Mode, Move, Parameter, Pitch, Place, Printer, Settings, Side, Stops, Switch, Tabs, Width}
+use Rattle.printer.specs.Types.{Choice, Command, Control, ImageMode, Listing, ListPart, Look, Mode, Move, Parameter, Pitch, Place, Printer, Settings, Side, Stops, Switch, TabStops, Target, Width}
 use Rattle.printer.proofs.Choices.{pick-elim}
 use Rattle.printer.proofs.Modes.{step-within}
-use Rattle.printer.proofs.Accepting.{power-on-accepted, power-on-typed}
-use Rattle.printer.proofs.Legal.{Gathered, Done, Legal, LegalAll}
+use Rattle.printer.proofs.Accepting.{power-on-accepted}
+use Rattle.printer.proofs.ChannelLaws.{set-places, channel-set, chosen-within, never-within}
+use Rattle.printer.proofs.Legal.{Given, Done, Legal, LegalAll}
 
 -- Widths
 
@@ -138,34 +140,41 @@ keep-relative s x n h f = go (ltb n 0x8000) h
 pub record StopsWithinBounds (t : Stops) : Type 0 where
   pub typed : StopsTyped t
   pub columns : Holds (columnBounds t)
-  pub lines : Holds (lineBounds t)
+  pub channels : Holds (channelBounds (t .channels))
 
-keep-stops : (s : Settings) (t : Stops) (k : Tabs) (part : ListPart) → ((b : ℕ) → part ≡ ListPart.End b → Gathered t k) → StopsWithinBounds t
-    → StopsWithinBounds (listStops s t k part)
-keep-stops s t k ListPart.Open g f =
-    record {
-      typed = record { columns = f .typed .columns; lines = f .typed .lines; gathered = refl };
-      columns = f .columns;
-      lines = f .lines;
-    }
-keep-stops s t k (ListPart.Byte b) g f =
-    record {
-      typed = record { columns = f .typed .columns; lines = f .typed .lines; gathered = simp length-set (f .typed .gathered) };
-      columns = f .columns;
-      lines = f .lines;
-    }
-keep-stops s t Tabs.Horizontal (ListPart.End b) g f =
-    record {
-      typed = record { columns = f .typed .gathered; lines = f .typed .lines; gathered = refl };
-      columns = g b refl;
-      lines = f .lines;
-    }
-keep-stops s t Tabs.Vertical (ListPart.End b) g f =
-    record {
-      typed = record { columns = f .typed .columns; lines = f .typed .gathered; gathered = refl };
-      columns = f .columns;
-      lines = g b refl;
-    }
+module _ (s : Settings) (t : Stops) (f : StopsWithinBounds t) where
+  -- another list is gathered
+  keep-gathering : (l : TabStops) → length (l .stops) ≡ 32 → StopsWithinBounds (gathering t l)
+  keep-gathering l e =
+      record {
+        typed = record { columns = f .typed .columns; channels = f .typed .channels; counts = f .typed .counts; gathered = e };
+        columns = f .columns;
+        channels = f .channels;
+      }
+
+  keep-list : (k : Listing) (part : ListPart) → Given s t (Command.List k part) → StopsWithinBounds (listStops s t k part)
+  keep-list (Listing.Sets k) (ListPart.Byte b) g = keep-gathering (oneMore (t .gathered) (stopOf s k b)) (simp length-set (f .typed .gathered))
+  keep-list (Listing.Sets Target.Columns) (ListPart.End b) g =
+      record {
+        typed = record { columns = f .typed .gathered; channels = f .typed .channels; counts = f .typed .counts; gathered = refl };
+        columns = g .end Target.Columns b refl .1;
+        channels = f .channels;
+      }
+  keep-list (Listing.Sets (Target.Channel m)) (ListPart.End b) g =
+      let e = g .end (Target.Channel m) b refl in
+      let y = f .typed in
+      record {
+        typed =
+            record {
+              columns = y .columns;
+              channels = set-places (t .channels) m (t .gathered) (y .channels) (y .gathered) (omega arith);
+              counts = simp length-set (y .counts);
+              gathered = refl;
+            };
+        columns = f .columns;
+        channels = channel-set (t .channels) m (t .gathered) (y .channels) (y .counts) (y .gathered) (omega arith) (e .1) (f .channels);
+      }
+  keep-list Listing.Dropped part g = f
 
 -- Events
 
@@ -196,7 +205,12 @@ keep-done p Command.Reset n h k =
     let a = power-on-accepted (p .settings .setup) (omega arith) (omega arith) in (
       record {
         within = omega arith;
-        stops = record { typed = power-on-typed (p .settings .setup) .stops; columns = a .columns; lines = a .lines };
+        stops =
+            record {
+              typed = record { columns = refl; channels = k .stops .typed .channels; counts = refl; gathered = refl };
+              columns = a .columns;
+              channels = never-within (p .stops .channels .stops);
+            };
       },
       omega arith,
     )
@@ -224,8 +238,24 @@ keep-done p (Command.ImageByte m i b) n h k =
     let a = step-within m .1 in
     let u = move-le m i in
     (record { within = omega arith; stops = k .stops }, (h .bytes .0, omega arith, v .0, part-le m i (h .given .part m i b refl)))
+keep-done p (Command.Channel a) n h k =
+    let f = k .stops in
+    let m = h .needs in (
+      record {
+        within = k .within;
+        stops =
+            record {
+              typed = record { columns = f .typed .columns; channels = f .typed .channels; counts = f .typed .counts; gathered = f .typed .gathered };
+              columns = f .columns;
+              channels = chosen-within (p .stops .channels) a (m .0) (f .channels);
+            };
+      },
+      tt,
+    )
+keep-done p (Command.OpenList o) n h k =
+    (record { within = k .within; stops = keep-gathering (p .settings) (p .stops) (k .stops) noStops refl }, tt)
 keep-done p (Command.List t part) n h k =
-    (record { within = k .within; stops = keep-stops (p .settings) (p .stops) t part (λ b z. h .given .end t b (rw z)) (k .stops) }, tt)
+    (record { within = k .within; stops = keep-list (p .settings) (p .stops) (k .stops) t part (h .given) }, tt)
 
 pub keep : (p : Printer) (e : Event) → Legal p e → Bounded p → Bounded (perform p e)
 keep p (done c n) h k = keep-done p c n h k .0

@@ -12,30 +12,37 @@ use borrow.Author.Tests.{leb-true, leb-false, ltb-true, eqb-true, eqb-false}
 use Rattle.printer.specs.Tools.{both, within, _upTo_, holds, Holds, Bytes}
 use Rattle.printer.specs.Units.{perInchAcross, perInchDown}
 use Rattle.printer.specs.Widths.{advance, imageStep, imageBytes}
-use Rattle.printer.specs.Settings.{acrossOf, leftOf, rightOf, paperWidthOf, pageOf, skipOf, lineOf, edgeOf, downOf, heldIn}
+use Rattle.printer.specs.Settings.{acrossOf, leftOf, rightOf, paperWidthOf, pageOf, skipOf, lineOf, edgeOf, downOf, heldIn, channelCount, chosenStops}
 use Rattle.printer.specs.Escapes.{parameterRow, lookTakes}
 use Rattle.printer.specs.Codes.{spelt}
 use Rattle.printer.specs.Performing.{Event, done, passed, inside, automatic, Writing, silent, letter, imageByte, feed, clear, stopOf, lineFed, perform}
-use Rattle.printer.specs.Deciding.{pageRange, reasonOf, mostStops, tabNeeds, lineNeeds, controlNeeds, needsAt, attempt, ranged, pagesOfLine, letterEvents, feedAfterReturn, columnFrom, tabEvent, lineFrom, verticalEvents, vertical, controlEvents, decide}
-use Rattle.printer.specs.Bounds.{lastOf, lastStop, listBounds}
-use Rattle.printer.specs.InForce.{Image, InForce, keeping}
+use Rattle.printer.specs.Deciding.{pageRange, reasonOf, tabNeeds, lineNeeds, controlNeeds, needsAt, attempt, ranged, pagesOfLine, letterEvents, feedAfterReturn, columnFrom, tabEvent, lineFrom, verticalEvents, vertical, controlEvents, decide}
+use Rattle.printer.specs.Bounds.{lastOf, targetBounds, channelOf}
+use Rattle.printer.specs.InForce.{Image, ListSets, setsColumns, setsChannel, setsNothing, Opened, InForce, keeping}
 use Rattle.printer.specs.Reckoning.{changeOf}
 use Rattle.printer.specs.Spelling.{Classified}
-use Rattle.printer.specs.Types.{Command, Control, ImageMode, ListPart, Look, Parameter, Place, Printer, Settings, Stop, Stops, Tabs}
+use Rattle.printer.specs.Types.{Command, Control, ImageMode, Listing, ListPart, Look, Parameter, Place, Printer, Settings, Stop, Stops, Target}
 use Rattle.printer.proofs.Choices.{pick-elim, holds-fact}
 use Rattle.printer.proofs.Frames.{known, NoList, NoImage}
+use Rattle.printer.proofs.ChannelLaws.{eightLists}
 
--- what is in force by a state's settings and stops, and an image
-abbrev pub forceOf : Settings → Stops → Image → InForce
+-- what is in force by a state's settings and stops, and what was opened
+abbrev pub forceOf : Settings → Stops → Opened → InForce
 forceOf s t g =
     record {
       kept = keeping (perInchAcross (s .setup .resolution)) (perInchDown (s .setup .resolution)) (paperWidthOf s);
       width = s .width;
       draft = s .draft;
       upper = s .upperprints;
-      image = g;
+      opened = g;
       measures = record { left = leftOf s; right = rightOf s; page = pageOf s; skip = skipOf s; line = lineOf s };
-      lists = record { columns = heldIn (t .columns); lines = heldIn (t .lines); gathered = heldIn (t .gathered) };
+      lists =
+          record {
+            columns = heldIn (t .columns);
+            channels = eightLists (t .channels);
+            chosen = t .channels .chosen;
+            gathered = heldIn (t .gathered);
+          };
     }
 
 -- a setting's argument is in its range; of other commands nothing is said
@@ -58,25 +65,25 @@ takes-same c k n m z h = let i : c ≡ k = cc in let e : n ≡ m = cc in rw (i, 
 look-same : (k j : Look) → Command.Look k ≡ Command.Look j → lookTakes k ≡ true → lookTakes j ≡ true
 look-same k j z h = let i : k ≡ j = cc in rw i at h
 
--- the list being gathered is within its bounds
-abbrev pub Gathered : Stops → Tabs → Type 0
-Gathered t k = Holds (listBounds (mostStops k) (lastStop k) (t .gathered))
+-- the list being gathered is within its bounds, and for a channel that there is
+abbrev pub Gathered : Stops → Target → Type 0
+Gathered t k = (channelOf k ≤ 7) × Holds (targetBounds k (t .gathered))
 
 -- a list byte, made a stop, is above the list's last stop
-abbrev pub Above : Settings → Stops → Tabs → ℕ → Type 0
+abbrev pub Above : Settings → Stops → Target → ℕ → Type 0
 Above s t k b = 1 ≤ stopOf s k b → lastOf 0 (heldIn (t .gathered)) < stopOf s k b
 
 -- what a byte of a list or of an image gets from what was waited for; of other commands nothing is said
 pub record Given (s : Settings) (t : Stops) (c : Command) : Type 0 where
-  pub stop : (k : Tabs) (b : ℕ) → c ≡ Command.List k (ListPart.Byte b) → Gathered t k × Above s t k b
-  pub end : (k : Tabs) (b : ℕ) → c ≡ Command.List k (ListPart.End b) → Gathered t k
+  pub stop : (k : Target) (b : ℕ) → c ≡ Command.List (Listing.Sets k) (ListPart.Byte b) → Gathered t k × Above s t k b
+  pub end : (k : Target) (b : ℕ) → c ≡ Command.List (Listing.Sets k) (ListPart.End b) → Gathered t k
   pub part : (m : ImageMode) (k b : ℕ) → c ≡ Command.ImageByte m k b → k ≤ 255
 
 pub given-none : (s : Settings) (t : Stops) (c : Command) → NoList c → NoImage c → Given s t c
 given-none s t c n i =
     record {
-      stop = λ k b z. let e = n k (ListPart.Byte b) z in absurd (omega arith);
-      end = λ k b z. let e = n k (ListPart.End b) z in absurd (omega arith);
+      stop = λ k b z. let e = n (Listing.Sets k) (ListPart.Byte b) z in absurd (omega arith);
+      end = λ k b z. let e = n (Listing.Sets k) (ListPart.End b) z in absurd (omega arith);
       part = λ m k b z. let e = i m k b z in absurd (omega arith);
     }
 
@@ -92,9 +99,16 @@ pub record Done (p : Printer) (c : Command) (n : ℕ) : Type 0 where
 abbrev pub imageAt : ImageMode → ℕ → Image
 imageAt m k = record { step = imageStep m; bytes = imageBytes m; next = k }
 
--- an image byte is of this image
-abbrev pub InStep : Command → Image → Type 0
-InStep c g = (m : ImageMode) (k b : ℕ) → c ≡ Command.ImageByte m k b → g ≡ imageAt m k
+-- what a list that is read sets, in the reckoning's words
+abbrev pub setBy : Listing → ListSets
+setBy (Listing.Sets Target.Columns) = setsColumns
+setBy (Listing.Sets (Target.Channel m)) = setsChannel m
+setBy Listing.Dropped = setsNothing
+
+-- an image byte is of the image opened, and a list byte of the list
+pub record InStep (c : Command) (g : Opened) : Type 0 where
+  pub image : (m : ImageMode) (k b : ℕ) → c ≡ Command.ImageByte m k b → g .image ≡ imageAt m k
+  pub list : (k : Listing) (part : ListPart) → c ≡ Command.List k part → g .list ≡ setBy k
 
 -- a letter or an image byte that is passed over does not fit, a letter at the left margin
 abbrev pub Overflowing : Printer → (reason : ℕ) → Writing → Type 0
@@ -107,7 +121,7 @@ Overflowing p reason clear = Unit
 
 -- by what the reckoning says that it would write
 abbrev pub PassedFor : Printer → Command → (reason : ℕ) → Type 0
-PassedFor p c reason = (g : Image) → InStep c g → Overflowing p reason (changeOf (forceOf (p .settings) (p .stops) g) c 0 .writing)
+PassedFor p c reason = (g : Opened) → InStep c g → Overflowing p reason (changeOf (forceOf (p .settings) (p .stops) g) c 0 .writing)
 
 pub record Passed (p : Printer) (c : Command) (reason : ℕ) : Type 0 where
   pub bytes : Bytes (spelt c)
@@ -211,7 +225,7 @@ module _ (p : Printer) (P : Command → List Event → Type 0) (w : Ways p P) wh
       (λ t. w .does _ _ (free (λ k m z. cc) (λ k z. cc)) (rw (number before n l _ e) (holds-fact (tabNeeds (p .settings) (p .place) n) t)))
       (λ _. rw (longer before n) at (decided-tab b (before ++ (n ∷ [])) l (append-snoc before n l ∙ e)))
 
-  decided-stop : (b : ℕ) (before l : List ℕ) → before ++ l ≡ heldIn (p .stops .lines)
+  decided-stop : (b : ℕ) (before l : List ℕ) → before ++ l ≡ heldIn (chosenStops (p .stops))
       → P (vt b) (verticalEvents p (vt b) (lineFrom (downOf (p .place)) (suc (length before)) l))
   unfolding lineFrom
   decided-stop b before [] e = w .performs b Control.FormFeed 0 tt
@@ -225,9 +239,9 @@ module _ (p : Printer) (P : Command → List Event → Type 0) (w : Ways p P) wh
   decided-vertical : (b : ℕ) → P (vt b) (vertical p (vt b))
   unfolding vertical
   decided-vertical b =
-      pick-elim (P (vt b)) (p .stops .lineset)
-      (λ _. pick-elim (P (vt b)) (eqb (p .stops .lines .count) 0) (λ _. w .performsReturn b) (λ _. decided-stop b [] (heldIn (p .stops .lines)) refl))
+      pick-elim (P (vt b)) (eqb (channelCount (p .stops .channels) (p .stops .channels .chosen)) 0)
       (λ _. w .performs b Control.LineFeed (pagesOfLine p) (line-needs (perform p (done (vt b) 0))))
+      (λ _. pick-elim (P (vt b)) (eqb (chosenStops (p .stops) .count) 0) (λ _. w .performsReturn b) (λ _. decided-stop b [] (heldIn (chosenStops (p .stops))) refl))
 
   decided-control : (c : Control) (b : ℕ) → P (Command.Control c b) (controlEvents p c b)
   decided-control Control.CarriageReturn b = w .returns b
@@ -258,7 +272,9 @@ module _ (p : Printer) (P : Command → List Event → Type 0) (w : Ways p P) wh
   decided (Command.Page g) = in-range (pageRange g) _ _ (λ e. tried _ 3 (omega arith) (free (λ k m z. cc) (λ k z. cc)) (λ _ n i. tt)) (λ n i. tt)
   decided (Command.Move m a b) = tried _ 3 (omega arith) (free (λ k n z. cc) (λ k z. cc)) (λ _ n i. tt)
   decided (Command.OpenImage o a b) = w .does _ 0 (free (λ k n z. cc) (λ k z. cc)) tt
-  decided (Command.ImageByte m k b) = tried _ 4 (omega arith) (free (λ k n z. cc) (λ k z. cc)) (λ e g i. (rw (i m k b refl) (over _ _ e), refl))
+  decided (Command.ImageByte m k b) = tried _ 4 (omega arith) (free (λ k n z. cc) (λ k z. cc)) (λ e g i. (rw (i .image m k b refl) (over _ _ e), refl))
+  decided (Command.Channel n) = tried _ 2 (omega arith) (free (λ k n z. cc) (λ k z. cc)) (λ _ n i. tt)
+  decided (Command.OpenList o) = tried _ 2 (omega arith) (free (λ k n z. cc) (λ k z. cc)) (λ _ n i. tt)
   decided (Command.List k part) = tried _ 3 (omega arith) (free (λ k n z. cc) (λ k z. cc)) (λ _ n i. tt)
 
 -- What is decided is legal

@@ -6,6 +6,7 @@ pub mod Frames
 pub mod Types
 pub mod Accepting
 pub mod StopLists
+pub mod ChannelLaws
 pub mod Legal
 pub mod Spelling
 pub mod Keeping
@@ -17,6 +18,8 @@ pub mod Cuts
 pub mod Answering
 pub mod Advanced
 pub mod Columns
+pub mod Vertical
+pub mod Untouched
 pub mod Following
 pub mod NoBytes
 pub mod Claims

@@ -115,6 +115,7 @@ one-listed One.Skip = refl
 one-listed One.Feed = refl
 one-listed (One.Margin Side.Left) = refl
 one-listed (One.Margin Side.Right) = refl
+one-listed One.Channel = refl
 
 two-listed : (c : Two) → secondOf (twoCode c) ≡ Second.Begins (Begun.FirstOf c)
 unfolding lookup coded escapes seconds plainEscapes argumentEscapes otherEscapes modes looks parameters choices
@@ -159,6 +160,7 @@ every-listed =
       page = refl;
       advanced = refl;
       select = refl;
+      listChannel = refl;
       list = list-listed;
       reset = refl;
       noControl = no-control;

@@ -6,7 +6,7 @@ use borrow.Author.Tests.{ne-eqb}
 use Rattle.printer.specs.Codes.{oneCode, shows}
 use Rattle.printer.specs.Framing.{secondOf}
 use Rattle.printer.specs.Shown.{noByteOf, noByte}
-use Rattle.printer.specs.Types.{Begun, Command, ListPart, Look, One, Opening, Page, Refused, Second, Silent, Tabs}
+use Rattle.printer.specs.Types.{Begun, Command, Listing, ListOpening, ListPart, Look, One, Opening, Page, Refused, Second, Silent}
 use Rattle.printer.proofs.Frames.{clash}
 use Rattle.printer.proofs.Listed.{every-listed}
 
@@ -39,10 +39,13 @@ page-shown : (g : Page) → shows (Command.Page g) ≡ noByte (Command.Page g)
 page-shown (Page.Lines n) = refl
 page-shown (Page.Inches n) = refl
 
-list-shown : (t : Tabs) (part : ListPart) → shows (Command.List t part) ≡ noByte (Command.List t part)
-list-shown t ListPart.Open = refl
-list-shown t (ListPart.Byte b) = refl
-list-shown t (ListPart.End b) = refl
+open-shown : (o : ListOpening) → shows (Command.OpenList o) ≡ noByte (Command.OpenList o)
+open-shown (ListOpening.Named t) = refl
+open-shown (ListOpening.Channel m) = refl
+
+list-shown : (k : Listing) (part : ListPart) → shows (Command.List k part) ≡ noByte (Command.List k part)
+list-shown k (ListPart.Byte b) = refl
+list-shown k (ListPart.End b) = refl
 
 pub no-byte : (c : Command) → shows c ≡ noByte c
 no-byte (Command.Letter b) = refl
@@ -61,4 +64,6 @@ no-byte (Command.Move m a b) = refl
 no-byte (Command.OpenImage (Opening.Named d) a b) = refl
 no-byte (Command.OpenImage (Opening.Selected m) a b) = refl
 no-byte (Command.ImageByte m k b) = refl
-no-byte (Command.List t part) = list-shown t part
+no-byte (Command.Channel n) = refl
+no-byte (Command.OpenList o) = open-shown o
+no-byte (Command.List k part) = list-shown k part

@@ -12,9 +12,9 @@ use Rattle.printer.specs.Performing.{Event, done, passed, inside, automa
 use Rattle.printer.specs.Deciding.{feedAfterReturn, pagesOfLine, decide}
 use Rattle.printer.specs.Steps.{frameAt, eventsIn, nextIn, stepEvents, stepOf, stateAfter, eventsOver}
 use Rattle.printer.specs.Spelling.{pending, speltAll, Classified, ClassifiedEvent, ClassifiedOver}
-use Rattle.printer.specs.Types.{Command, Frame, ImageMode, ListPart, Printer, Tabs, Waiting}
+use Rattle.printer.specs.Types.{Command, Frame, ImageMode, Printer, Waiting}
 use Rattle.printer.proofs.Choices.{pick-elim, each-map}
-use Rattle.printer.proofs.Frames.{Framed, begins, single, opensList, opensImage, rests, afterEscape, list-classified, open-classified, image-classified, framed-first, framed-second, framed-argument}
+use Rattle.printer.proofs.Frames.{Framed, begins, single, opensList, opensImage, rests, afterEscape, open-list-classified, list-classified, open-classified, image-classified, framed-first, framed-second, framed-argument}
 use Rattle.printer.proofs.Legal.{attempted, decided}
 
 -- One byte
@@ -43,7 +43,7 @@ unfolding frame
 frame-spells upper Waiting.Nothing b = framed-spells upper _ _ (framed-first upper b)
 frame-spells upper Waiting.SecondByte b = framed-spells upper _ _ (framed-second upper b)
 frame-spells upper (Waiting.Arguments w) b = framed-spells upper _ _ (framed-argument upper w b)
-frame-spells upper (Waiting.StopList t before) b =
+frame-spells upper (Waiting.StopList k before) b =
     pick-elim (λ (f : Frame). speltIn f ≡ b ∷ []) (leb b before) (λ _. refl) (λ _. refl)
 frame-spells upper (Waiting.ImageData m k n) b = rw (byte-pending m k n)
 
@@ -56,7 +56,7 @@ ClassifiedIn upper (Frame.Whole c w) = Classified upper c
 framed-classified : (upper : Bool) (l : List ℕ) (f : Frame) → Framed upper l f → ClassifiedIn upper f
 framed-classified upper l (Frame.Waits w) (begins e) = tt
 framed-classified upper l (Frame.Whole c w) (single e k n i r) = k
-framed-classified upper l (Frame.Whole (Command.List t ListPart.Open) w) (opensList e) = list-classified upper t ListPart.Open
+framed-classified upper l (Frame.Whole (Command.OpenList o) w) (opensList e) = open-list-classified upper o
 framed-classified upper l (Frame.Whole (Command.OpenImage o a b) w) (opensImage e) = open-classified upper o a b
 
 frame-classified : (upper : Bool) (w : Waiting) (b : ℕ) → ClassifiedIn upper (frame upper w b)
@@ -64,8 +64,8 @@ unfolding frame
 frame-classified upper Waiting.Nothing b = framed-classified upper _ _ (framed-first upper b)
 frame-classified upper Waiting.SecondByte b = framed-classified upper _ _ (framed-second upper b)
 frame-classified upper (Waiting.Arguments w) b = framed-classified upper _ _ (framed-argument upper w b)
-frame-classified upper (Waiting.StopList t before) b =
-    pick-elim (ClassifiedIn upper) (leb b before) (λ _. list-classified upper t _) (λ _. list-classified upper t _)
+frame-classified upper (Waiting.StopList k before) b =
+    pick-elim (ClassifiedIn upper) (leb b before) (λ _. list-classified upper k _) (λ _. list-classified upper k _)
 frame-classified upper (Waiting.ImageData m k n) b = image-classified upper m k b
 
 -- The events of a command are that command's

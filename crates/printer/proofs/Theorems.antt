@@ -9,7 +9,7 @@ use lib.ListN.{length}
 use Rattle.printer.specs.Tools.{Each, Bytes}
 use Rattle.printer.specs.Units.{rounded}
 use Rattle.printer.specs.Widths.{imageBytes}
-use Rattle.printer.specs.PowerOn.{powerOn}
+use Rattle.printer.specs.PowerOn.{powerOn, stopRoom}
 use Rattle.printer.specs.Records.{recordSize, roomForByte, passedRecord, encoded, encodedAll}
 use Rattle.printer.specs.Decoding.{decoded, decodedAll, FitsBytes}
 use Rattle.printer.specs.Bounds.{accepted}
@@ -18,6 +18,8 @@ use Rattle.printer.specs.Steps.{stepRecords, stateAfter, recordsOver, ev
 use Rattle.printer.specs.Spelling.{pending, speltAll, StandsFor, among, listedImageModes, ClassifiedOver, EveryListed}
 use Rattle.printer.specs.Advanced.{OnlyWrites, AdvancedCommands}
 use Rattle.printer.specs.Columns.{Column}
+use Rattle.printer.specs.Performing.{withChannel}
+use Rattle.printer.specs.Vertical.{SameChannel, Spares, ToItsEnd, withChosen, SameRules}
 use Rattle.printer.specs.Calls.{usable, setupOf, startOf, readingOf, outputOf, StartCall, ReadCall, row, numberOf, ThatState, ByTable}
 use Rattle.printer.specs.Promises.{callBy, ReadingPromise}
 use Rattle.printer.specs.Cutting.{Readings, joinedInput, lastState, joinedOutput, bytesRead, ReadToEnd, Resumed, Leaves}
@@ -28,7 +30,7 @@ use Rattle.printer.specs.Worked.{InputsWorked, StatesWorked}
 use Rattle.printer.specs.WorkedInputs.{workedInputs}
 use Rattle.printer.specs.WorkedStates.{workedStates}
 use Rattle.printer.specs.PaperCodes.{PaperCodes, ArgumentsTaken}
-use Rattle.printer.specs.Types.{Answer, ImageMode, Reading, Started, Record, StartSettings, Printer, Waiting}
+use Rattle.printer.specs.Types.{Answer, Channels, ImageMode, Reading, Started, Record, StartSettings, Printer, TabStops, Waiting}
 use Rattle.printer.proofs.Accepting.{fact-accepted, accepted-fact, power-on-accepted, usable-width}
 use Rattle.printer.proofs.KeepingSteps.{steps-ours}
 use Rattle.printer.proofs.Few.{two-records}
@@ -36,6 +38,8 @@ use Rattle.printer.proofs.Listed.{every-listed}
 use Rattle.printer.proofs.Spelling.{steps-spell, steps-classified}
 use Rattle.printer.proofs.Advanced.{advanced-commands}
 use Rattle.printer.proofs.Columns.{column-from, other-mode}
+use Rattle.printer.proofs.Vertical.{dropped-list, other-channel, this-channel, same-rules}
+use Rattle.printer.proofs.Untouched.{spared, bytes-spare}
 use Rattle.printer.proofs.Bytes.{decoded-encoded, decodedAll-encoded}
 use Rattle.printer.proofs.Writing.{steps-fit}
 use Rattle.printer.proofs.Cuts.{gave, calls-state, calls-output, read-to-end, resumed-reads, enough-reads}
@@ -118,6 +122,35 @@ column p m n bytes w e = column-from p m n bytes w e
 pub other-image-mode : (p : Printer) (b m : ℕ) → p .waiting ≡ Waiting.Nothing → StandsFor (p .settings .upperprints) b 0x1B
     → among listedImageModes m ≡ false → OnlyWrites p (b ∷ 0x2A ∷ m ∷ []) (passedRecord 0x2A 2 ∷ [])
 other-image-mode p b m w s k = other-mode p b m w s k
+
+-- vertical channels: one that is set leaves the others as they were
+pub others : (c : Channels) (m k : ℕ) (l : TabStops) → length (c .stops) ≡ 128 → length (l .stops) ≡ stopRoom → m ≤ 7 → (k ≡ m → ⊥)
+    → SameChannel k c (withChannel c m l)
+others c m k l d s h n = spared c m k l d s (omega arith) n
+
+-- so over every input a channel of which no list ends is as it was, without ESC @
+pub untouched : (p : Printer) (input : List ℕ) (k : ℕ) → Typed p → accepted p ≡ true → Bytes input → Each (Spares k) (eventsOver p input)
+    → SameChannel k (p .stops .channels) (stateAfter p input .stops .channels)
+untouched p input k t a b s = bytes-spare k p input b (record { typed = t; accepted = accepted-fact p a }) s
+
+-- ESC b m reads its list as ESC B does, and sets channel m alone, as that sets channel 0
+pub same-list-rules : (p : Printer) (b m : ℕ) (l : List ℕ) → p .waiting ≡ Waiting.Nothing → StandsFor (p .settings .upperprints) b 0x1B
+    → m ≤ 7 → ToItsEnd 0 l → SameRules p b m l
+same-list-rules p b m l w s h k = same-rules p b m w s l h k
+
+-- above 7 it is one NO, and the list is read to its end and changes nothing
+pub dropped : (p : Printer) (b m : ℕ) (l : List ℕ) → p .waiting ≡ Waiting.Nothing → StandsFor (p .settings .upperprints) b 0x1B
+    → 7 < m → ToItsEnd 0 l → OnlyWrites p (b ∷ 0x62 ∷ m ∷ l) (passedRecord 0x62 2 ∷ [])
+dropped p b m l w s h k = dropped-list p b m w s l h k
+
+-- ESC / m chooses channel m alone; above 7 it is one NO
+pub chooses : (p : Printer) (b m : ℕ) → p .waiting ≡ Waiting.Nothing → StandsFor (p .settings .upperprints) b 0x1B
+    → m ≤ 7 → (stateAfter p (b ∷ 0x2F ∷ m ∷ []) ≡ withChosen p m) × (recordsOver p (b ∷ 0x2F ∷ m ∷ []) ≡ [])
+chooses p b m w s h = this-channel p b m w s h
+
+pub no-such-channel : (p : Printer) (b m : ℕ) → p .waiting ≡ Waiting.Nothing → StandsFor (p .settings .upperprints) b 0x1B
+    → 7 < m → OnlyWrites p (b ∷ 0x2F ∷ m ∷ []) (passedRecord 0x2F 2 ∷ [])
+no-such-channel p b m w s h = other-channel p b m w s h
 
 -- 4. Demand 2, cutting: over calls that kept their promises, each with the state that the one before returned or left
 

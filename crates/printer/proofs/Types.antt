@@ -10,11 +10,12 @@ use denote.Laws.{Is}
 use Rattle.printer.specs.Tools.{Bytes}
 use Rattle.printer.specs.Codes.{begunBy}
 use Rattle.printer.specs.Accepted.{waitingTyped, StopsTyped, Typed}
-use Rattle.printer.specs.Types.{Begun, Printer, Stops, TabStops, Waiting}
+use Rattle.printer.specs.Types.{Begun, Channels, Printer, Stops, TabStops, Waiting}
 use Rattle.printer.proofs.Listed.{one-byte, two-byte}
 use Rattle.printer.proofs.Modes.{number-byte}
 use Rattle.printer.proofs.commands.Begun as B
 use Rattle.printer.proofs.commands.Waiting as W
+use Rattle.printer.proofs.stops.Channels as C
 use Rattle.printer.proofs.stops.Stops as S
 use Rattle.printer.proofs.stops.TabStops as T
 use Rattle.printer.proofs.state.Printer as P
@@ -30,13 +31,18 @@ known-bytes (b ∷ l) h = (h 0, known-bytes l (λ i. h (suc i)))
 list : (l : TabStops) {vs : List Val} → Is T.the-row l vs → length (l .stops) ≡ 32
 list l h = simp length-map at (h .1 .1 .0 .1 .0 .1)
 
+-- those of the channels
+arrays : (c : Channels) {vs : List Val} → Is C.the-row c vs → (length (c .stops) ≡ 128) × (length (c .counts) ≡ 8)
+arrays c h = (simp length-map at (h .1 .1 .0 .1 .0 .1), simp length-map at (h .1 .1 .1 .0 .1 .0 .1))
+
 stops-typed : (t : Stops) {vs : List Val} → Is S.the-row t vs → StopsTyped t
 stops-typed t h =
     let f = h .1 .1 in
     record {
       columns = list (t .columns) (f .0);
-      lines = list (t .lines) (f .1 .0);
-      gathered = list (t .gathered) (f .1 .1 .1 .0);
+      channels = arrays (t .channels) (f .1 .0) .0;
+      counts = arrays (t .channels) (f .1 .0) .1;
+      gathered = list (t .gathered) (f .1 .1 .0);
     }
 
 begun : (w : Begun) {vs : List Val} → Is B.the-row w vs → Bytes (begunBy w)
@@ -50,6 +56,7 @@ begun (Begun.SecondOf c a) h = (two-byte c, (byte (h .1 .1 .1 .1 .1 .0), tt))
 begun Begun.SelectMode h = (omega arith, tt)
 begun (Begun.ColumnsLow m) h = (omega arith, (number-byte m, tt))
 begun (Begun.ColumnsHigh m a) h = (omega arith, (number-byte m, (byte (h .1 .1 .1 .1 .1 .0), tt)))
+begun Begun.ListChannel h = (omega arith, tt)
 
 waiting : (w : Waiting) {vs : List Val} → Is W.the-row w vs → waitingTyped w
 waiting Waiting.Nothing h = tt

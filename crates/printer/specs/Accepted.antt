@@ -5,7 +5,7 @@ use lib.ListN.{length}
 use Rattle.printer.specs.Tools.{Holds, Bytes}
 use Rattle.printer.specs.PowerOn.{stopRoom}
 use Rattle.printer.specs.Codes.{begunBy}
-use Rattle.printer.specs.Bounds.{settingsBounds, placeBounds, columnBounds, lineBounds, waitingBounds}
+use Rattle.printer.specs.Bounds.{settingsBounds, placeBounds, columnBounds, channelBounds, waitingBounds}
 use Rattle.printer.specs.Types.{Printer, Stops, Waiting}
 
 -- a state within the bounds
@@ -13,7 +13,7 @@ pub record Accepted (p : Printer) : Type 0 where
   pub settings : Holds (settingsBounds (p .settings))
   pub place : Holds (placeBounds (p .settings) (p .place))
   pub columns : Holds (columnBounds (p .stops))
-  pub lines : Holds (lineBounds (p .stops))
+  pub channels : Holds (channelBounds (p .stops .channels))
   pub waiting : Holds (waitingBounds (p .settings) (p .stops) (p .waiting))
 
 -- What every value of the declared types has: bytes are below 256, and arrays have their lengths.
@@ -27,7 +27,8 @@ waitingTyped (Waiting.ImageData m k n) = Unit
 
 pub record StopsTyped (t : Stops) : Type 0 where
   pub columns : length (t .columns .stops) ≡ stopRoom
-  pub lines : length (t .lines .stops) ≡ stopRoom
+  pub channels : length (t .channels .stops) ≡ 128
+  pub counts : length (t .channels .counts) ≡ 8
   pub gathered : length (t .gathered .stops) ≡ stopRoom
 
 pub record Typed (p : Printer) : Type 0 where

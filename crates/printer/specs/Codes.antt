@@ -3,7 +3,7 @@ use Prim.Native.Nat.{ℕ}
 use mathlib.Core.List.{List, [], _∷_, _++_, map}
 use lib.ListN.{getD}
 use Rattle.printer.specs.Escapes.{modeRow, parameterRow, switchRow, choiceRow, modes, looks, parameters, choices}
-use Rattle.printer.specs.Types.{Begun, Command, Control, Density, First, ImageMode, ListPart, Look, Move, One, Opening, Page, Refused, Second, Selected, Side, Silent, Tabs, Two}
+use Rattle.printer.specs.Types.{Begun, Command, Control, Density, First, ImageMode, ListOpening, ListPart, Look, Move, One, Opening, Page, Refused, Second, Selected, Side, Silent, Tabs, Two}
 
 abbrev pub controlCode : Control → ℕ
 controlCode Control.Backspace = 0x08
@@ -24,6 +24,7 @@ oneCode One.Skip = 0x4E
 oneCode One.Feed = 0x4A
 oneCode (One.Margin Side.Left) = 0x6C
 oneCode (One.Margin Side.Right) = 0x51
+oneCode One.Channel = 0x2F
 
 abbrev pub twoCode : Two → ℕ
 twoCode (Two.Move Move.Absolute) = 0x24
@@ -63,6 +64,10 @@ imageModeNumber ImageMode.Crt24 = 38
 imageModeNumber ImageMode.Triple24 = 39
 imageModeNumber ImageMode.Hex24 = 40
 
+-- ESC b
+abbrev channelCode : ℕ
+channelCode = 0x62
+
 -- an escape begun: its second byte, and its arguments so far
 abbrev pub begunBy : Begun → List ℕ
 begunBy (Begun.One c) = oneCode c ∷ []
@@ -75,6 +80,7 @@ begunBy (Begun.SecondOf c a) = twoCode c ∷ a ∷ []
 begunBy Begun.SelectMode = selectCode ∷ []
 begunBy (Begun.ColumnsLow m) = selectCode ∷ imageModeNumber m ∷ []
 begunBy (Begun.ColumnsHigh m a) = selectCode ∷ imageModeNumber m ∷ a ∷ []
+begunBy Begun.ListChannel = channelCode ∷ []
 
 -- (what is not listed has no code, and is never looked up)
 abbrev pub firstCode : First → ℕ
@@ -114,11 +120,11 @@ argumentEscapes = map (λ c. one (One.Parameter c)) parameters ++ map (λ c. one
 
 unfoldable pub otherEscapes : List Second
 otherEscapes =
-    map one (One.Skip ∷ One.Feed ∷ One.Margin Side.Left ∷ One.Margin Side.Right ∷ [])
+    map one (One.Skip ∷ One.Feed ∷ One.Margin Side.Left ∷ One.Margin Side.Right ∷ One.Channel ∷ [])
     ++ map (λ c. Second.Begins (Begun.FirstOf c))
     (Two.Move Move.Absolute ∷ Two.Move Move.Relative ∷ Two.Image Density.Single ∷
     Two.Image Density.Double ∷ Two.Image Density.DoubleSpeed ∷ Two.Image Density.Quadruple ∷ [])
-    ++ (Second.Begins Begun.PageLength ∷ Second.Begins Begun.Advanced ∷ Second.Begins Begun.SelectMode ∷
+    ++ (Second.Begins Begun.PageLength ∷ Second.Begins Begun.Advanced ∷ Second.Begins Begun.SelectMode ∷ Second.Begins Begun.ListChannel ∷
     Second.List Tabs.Horizontal ∷ Second.List Tabs.Vertical ∷ Second.Reset ∷ [])
 
 unfoldable pub seconds : List Second
@@ -163,10 +169,13 @@ abbrev pub pageBy : Page → Received
 pageBy (Page.Lines n) = by pageCode (n ∷ [])
 pageBy (Page.Inches n) = by pageCode (0 ∷ n ∷ [])
 
-abbrev pub listBy : Tabs → ListPart → Received
-listBy t ListPart.Open = by (secondCode (Second.List t)) []
-listBy t (ListPart.Byte b) = by b []
-listBy t (ListPart.End b) = by b []
+abbrev pub listOpenedBy : ListOpening → Received
+listOpenedBy (ListOpening.Named t) = by (secondCode (Second.List t)) []
+listOpenedBy (ListOpening.Channel m) = by channelCode (m ∷ [])
+
+abbrev pub listBy : ListPart → Received
+listBy (ListPart.Byte b) = by b []
+listBy (ListPart.End b) = by b []
 
 abbrev pub openedBy : Opening → (a b : ℕ) → Received
 openedBy (Opening.Named d) a b = by (twoCode (Two.Image d)) (a ∷ b ∷ [])
@@ -188,7 +197,9 @@ received (Command.Page g) = pageBy g
 received (Command.Move m a b) = by (twoCode (Two.Move m)) (a ∷ b ∷ [])
 received (Command.OpenImage o a b) = openedBy o a b
 received (Command.ImageByte m k b) = by b []
-received (Command.List t part) = listBy t part
+received (Command.Channel n) = by (oneCode One.Channel) (n ∷ [])
+received (Command.OpenList o) = listOpenedBy o
+received (Command.List k part) = listBy part
 
 abbrev pub speltAs : Received → List ℕ
 speltAs (by code arguments) = code ∷ arguments

@@ -6,11 +6,11 @@ use lib.Dec.{leb, ltb, eqb}
 use Rattle.printer.specs.Tools.{pick, within, Order, _upTo_, passes, holds}
 use Rattle.printer.specs.Units.{units, shortestPage, longestPage}
 use Rattle.printer.specs.Widths.{imageStep}
-use Rattle.printer.specs.Settings.{leftOf, rightOf, paperWidthOf, pageOf, lineOf, edgeOf, relativeStep, advanceOf, columnOf, acrossOf, downOf, heldIn}
+use Rattle.printer.specs.Settings.{leftOf, rightOf, paperWidthOf, pageOf, lineOf, edgeOf, relativeStep, advanceOf, columnOf, acrossOf, downOf, heldIn, channelCount, chosenStops}
 use Rattle.printer.specs.Escapes.{parameterRow, lookTakes}
 use Rattle.printer.specs.Records.{unlisted, notAllowed, pastLimits, doesNotFit, noStop}
 use Rattle.printer.specs.Performing.{Event, done, passed, inside, automatic, stopAt, stopOf, pageUnits, perform}
-use Rattle.printer.specs.Types.{Command, Control, ListPart, Move, Page, Pitch, Place, Printer, Refused, Settings, Side, Stop, Stops, Tabs, Width}
+use Rattle.printer.specs.Types.{Command, Control, Listing, ListOpening, ListPart, Move, Page, Pitch, Place, Printer, Refused, Settings, Side, Stop, Stops, Target, Width}
 
 -- Range: reason 2; that of settings stands in their rows
 
@@ -57,7 +57,7 @@ controlNeeds s t x Control.CarriageReturn m = []
 controlNeeds s t x Control.LineFeed m = lineNeeds s x m
 controlNeeds s t x Control.FormFeed m = []
 controlNeeds s t x Control.HorizontalTab m = tabNeeds s x (stopAt (heldIn (t .columns)) m)
-controlNeeds s t x Control.VerticalTab m = verticalNeeds s (heldIn (t .lines)) m
+controlNeeds s t x Control.VerticalTab m = verticalNeeds s (heldIn (chosenStops t)) m
 controlNeeds s t x Control.Backspace m = (leftOf s + advanceOf s upTo acrossOf x) ∷ []
 controlNeeds s t x Control.ShiftOut m = []
 controlNeeds s t x Control.ShiftIn m = reducedNeeds (s .width)
@@ -86,23 +86,32 @@ abbrev pub moveNeeds : Settings → Place → Move → ℕ → List Order
 moveNeeds s x Move.Absolute n = (leftOf s + 60 * n upTo rightOf s) ∷ []
 moveNeeds s x Move.Relative n = relativeNeeds s x n
 
+-- document 02, E6: a channel is 0 to 7
+abbrev pub channelNeeds : ℕ → List Order
+channelNeeds m = (m upTo 7) ∷ []
+
+abbrev pub openNeeds : ListOpening → List Order
+openNeeds (ListOpening.Named t) = []
+openNeeds (ListOpening.Channel m) = channelNeeds m
+
 -- at most 32 horizontal and 16 vertical stops
-abbrev pub mostStops : Tabs → ℕ
-mostStops Tabs.Horizontal = 32
-mostStops Tabs.Vertical = 16
+abbrev pub mostStops : Target → ℕ
+mostStops Target.Columns = 32
+mostStops (Target.Channel m) = 16
 
 -- a stop: within the right margin, or from 1 to the edge less 1
-abbrev pub stopPlace : Settings → Tabs → ℕ → List Order
-stopPlace s Tabs.Horizontal n = (leftOf s + n * columnOf s upTo rightOf s) ∷ []
-stopPlace s Tabs.Vertical n = (1 upTo n) ∷ (suc n upTo edgeOf s) ∷ []
+abbrev pub stopPlace : Settings → Target → ℕ → List Order
+stopPlace s Target.Columns n = (leftOf s + n * columnOf s upTo rightOf s) ∷ []
+stopPlace s (Target.Channel m) n = (1 upTo n) ∷ (suc n upTo edgeOf s) ∷ []
 
-abbrev pub stopNeeds : Settings → Stops → Tabs → ℕ → List Order
+abbrev pub stopNeeds : Settings → Stops → Target → ℕ → List Order
 stopNeeds s t k b = (suc (t .gathered .count) upTo mostStops k) ∷ stopPlace s k (stopOf s k b)
 
-abbrev pub listNeeds : Settings → Stops → Tabs → ListPart → List Order
-listNeeds s t k ListPart.Open = []
-listNeeds s t k (ListPart.Byte b) = stopNeeds s t k b
-listNeeds s t k (ListPart.End b) = []
+-- of a list that is dropped nothing is asked
+abbrev pub listNeeds : Settings → Stops → Listing → ListPart → List Order
+listNeeds s t (Listing.Sets k) (ListPart.Byte b) = stopNeeds s t k b
+listNeeds s t (Listing.Sets k) (ListPart.End b) = []
+listNeeds s t Listing.Dropped part = []
 
 abbrev pub needs : Settings → Stops → Place → Command → ℕ → List Order
 needs s t x (Command.Letter b) number = (acrossOf x + advanceOf s upTo rightOf s) ∷ []
@@ -121,6 +130,8 @@ needs s t x (Command.Page g) number = (shortestPage upTo pageUnits s g) ∷ (pag
 needs s t x (Command.Move m a b) number = moveNeeds s x m (a + 256 * b)
 needs s t x (Command.OpenImage o a b) number = []
 needs s t x (Command.ImageByte m k b) number = (acrossOf x + imageStep m upTo rightOf s) ∷ []
+needs s t x (Command.Channel n) number = channelNeeds n
+needs s t x (Command.OpenList o) number = openNeeds o
 needs s t x (Command.List k part) number = listNeeds s t k part
 
 abbrev pub needsAt : Printer → Command → ℕ → List Order
@@ -177,14 +188,14 @@ abbrev pub verticalEvents : Printer → Command → Stop → List Event
 verticalEvents p c (Stop.Found k n) = pick (ltb (n .0) (edgeOf (p .settings))) (done c k ∷ []) (formInside c)
 verticalEvents p c Stop.Missing = formInside c
 
--- never set: LF; list empty: CR; else the search
+-- the chosen channel never set: LF; its list empty: CR; else the search
 unfoldable pub vertical : Printer → Command → List Event
 vertical p c =
-    pick (p .stops .lineset)
-    (pick (eqb (p .stops .lines .count) 0)
-    (done c 0 ∷ inside Control.CarriageReturn 0 ∷ feedAfterReturn (perform (perform p (done c 0)) (inside Control.CarriageReturn 0)))
-    (verticalEvents p c (lineFrom (downOf (p .place)) 1 (heldIn (p .stops .lines)))))
+    pick (eqb (channelCount (p .stops .channels) (p .stops .channels .chosen)) 0)
     (done c 0 ∷ inside Control.LineFeed (pagesOfLine p) ∷ [])
+    (pick (eqb (chosenStops (p .stops) .count) 0)
+    (done c 0 ∷ inside Control.CarriageReturn 0 ∷ feedAfterReturn (perform (perform p (done c 0)) (inside Control.CarriageReturn 0)))
+    (verticalEvents p c (lineFrom (downOf (p .place)) 1 (heldIn (chosenStops (p .stops))))))
 
 abbrev pub controlEvents : Printer → Control → ℕ → List Event
 controlEvents p Control.CarriageReturn b =
@@ -230,4 +241,6 @@ decide p (Command.Page g) = ranged (pageRange g) (Command.Page g) (attempt p (Co
 decide p (Command.Move m a b) = attempt p (Command.Move m a b) pastLimits ∷ []
 decide p (Command.OpenImage o a b) = done (Command.OpenImage o a b) 0 ∷ []
 decide p (Command.ImageByte m k b) = attempt p (Command.ImageByte m k b) doesNotFit ∷ []
+decide p (Command.Channel n) = attempt p (Command.Channel n) notAllowed ∷ []
+decide p (Command.OpenList o) = attempt p (Command.OpenList o) notAllowed ∷ []
 decide p (Command.List k part) = attempt p (Command.List k part) pastLimits ∷ []

@@ -138,6 +138,8 @@ LeadsAs r (Command.Page g) n = Unit
 LeadsAs r (Command.Move m a b) n = Unit
 LeadsAs r (Command.OpenImage o a b) n = Unit
 LeadsAs r (Command.ImageByte m k b) n = Unit
+LeadsAs r (Command.Channel m) n = Unit
+LeadsAs r (Command.OpenList o) n = Unit
 LeadsAs r (Command.List k part) n = Unit
 
 abbrev pub Leads : Reckoning → Event → Type 0

@@ -6,7 +6,7 @@ use lib.Dec.{leb, eqb}
 use Rattle.printer.specs.Tools.{pick, both, either, within, lookup, coded}
 use Rattle.printer.specs.Widths.{imageBytes}
 use Rattle.printer.specs.Codes.{firstCode, secondCode, selectedNumber, firsts, seconds, imageModes, modeCode, statusCode}
-use Rattle.printer.specs.Types.{Begun, Command, Density, First, Frame, ImageMode, ListPart, Look, One, Opening, Page, Refused, Second, Selected, Silent, Tabs, Two, Waiting}
+use Rattle.printer.specs.Types.{Begun, Command, Density, First, Frame, ImageMode, Listing, ListOpening, ListPart, Look, One, Opening, Page, Refused, Second, Selected, Silent, Tabs, Target, Two, Waiting}
 
 -- a letter: 20h to 7Eh, A0h to FFh, and 80h to 9Fh after ESC 6
 unfoldable pub isLetter : Bool → ℕ → Bool
@@ -41,6 +41,7 @@ oneCommand (One.Choice c) n = Command.Look (Look.Choice c n)
 oneCommand One.Skip n = Command.Skip n
 oneCommand One.Feed n = Command.Feed n
 oneCommand (One.Margin side) n = Command.Margin side n
+oneCommand One.Channel n = Command.Channel n
 
 abbrev pub twoCommand : Two → ℕ → ℕ → Command
 twoCommand (Two.Move m) a b = Command.Move m a b
@@ -65,6 +66,16 @@ imageWait m n = pick (eqb n 0) Waiting.Nothing (Waiting.ImageData m 1 n)
 abbrev pub afterImageByte : ImageMode → (k columns : ℕ) → Waiting
 afterImageByte m k n = pick (eqb k (imageBytes m)) (imageWait m (n - 1)) (Waiting.ImageData m (suc k) n)
 
+-- ESC D sets the columns and ESC B channel 0; document 02, E6: ESC b m sets channel m, and above 7 its list is read and dropped
+abbrev pub openedList : ListOpening → Listing
+openedList (ListOpening.Named Tabs.Horizontal) = Listing.Sets Target.Columns
+openedList (ListOpening.Named Tabs.Vertical) = Listing.Sets (Target.Channel 0)
+openedList (ListOpening.Channel m) = pick (leb m 7) (Listing.Sets (Target.Channel m)) Listing.Dropped
+
+-- a list opened, with no byte before its first
+abbrev pub listOpened : ListOpening → Frame
+listOpened o = Frame.Whole (Command.OpenList o) (Waiting.StopList (openedList o) 0)
+
 abbrev pub afterTwo : Two → ℕ → Waiting
 afterTwo (Two.Move m) n = Waiting.Nothing
 afterTwo (Two.Image d) n = imageWait (densityMode d) n
@@ -80,7 +91,7 @@ secondFrame Second.Reset b = Frame.Whole Command.Reset Waiting.Nothing
 secondFrame (Second.Mode c) b = Frame.Whole (Command.Mode c) Waiting.Nothing
 secondFrame (Second.Switch w) b = Frame.Whole (Command.Look (Look.Switch w)) Waiting.Nothing
 secondFrame (Second.Begins w) b = Frame.Waits (Waiting.Arguments w)
-secondFrame (Second.List t) b = Frame.Whole (Command.List t ListPart.Open) (Waiting.StopList t 0)
+secondFrame (Second.List t) b = listOpened (ListOpening.Named t)
 secondFrame Second.Unlisted b = Frame.Whole (Command.Refused (Refused.Escape b)) Waiting.Nothing
 
 -- document 02, E1: the third byte of ESC i, which is used up: "a", after which an argument comes; "S"; or one that is not listed
@@ -117,13 +128,14 @@ continued (Begun.SecondOf c a) b = Frame.Whole (twoCommand c a b) (afterTwo c (a
 continued Begun.SelectMode b = selectedFrame (selectedOf b) b
 continued (Begun.ColumnsLow m) b = Frame.Waits (Waiting.Arguments (Begun.ColumnsHigh m b))
 continued (Begun.ColumnsHigh m a) b = Frame.Whole (Command.OpenImage (Opening.Selected m) a b) (imageWait m (a + 256 * b))
+continued Begun.ListChannel b = listOpened (ListOpening.Channel b)
 
 -- a byte that is not above the byte before ends a stop list
-abbrev pub listFrame : Tabs → ℕ → ℕ → Frame
-listFrame t before b =
+abbrev pub listFrame : Listing → ℕ → ℕ → Frame
+listFrame k before b =
     pick (leb b before)
-    (Frame.Whole (Command.List t (ListPart.End b)) Waiting.Nothing)
-    (Frame.Whole (Command.List t (ListPart.Byte b)) (Waiting.StopList t b))
+    (Frame.Whole (Command.List k (ListPart.End b)) Waiting.Nothing)
+    (Frame.Whole (Command.List k (ListPart.Byte b)) (Waiting.StopList k b))
 
 -- what a byte is: whether 80h to 9Fh print, what was waited for, the byte
 unfoldable pub frame : Bool → Waiting → ℕ → Frame
@@ -133,5 +145,5 @@ frame upper Waiting.Nothing b =
     (firstFrame (firstOf (readAs upper b)) b)
 frame upper Waiting.SecondByte b = secondFrame (secondOf b) b
 frame upper (Waiting.Arguments w) b = continued w b
-frame upper (Waiting.StopList t before) b = listFrame t before b
+frame upper (Waiting.StopList k before) b = listFrame k before b
 frame upper (Waiting.ImageData m k n) b = Frame.Whole (Command.ImageByte m k b) (afterImageByte m k n)

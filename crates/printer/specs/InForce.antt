@@ -3,10 +3,12 @@ use Prim.Native.Nat.{ℕ, suc, _*_, _%_}
 use mathlib.Core.Bool.{Bool, true, false}
 use mathlib.Core.List.{List, [], _∷_, _++_}
 use lib.Dec.{leb, eqb}
+use lib.ListN.{getD, replicate}
+use lib.ListN as ListN
 use Rattle.printer.specs.Tools.{pick, both, either, within, lookup}
 use Rattle.printer.specs.Widths.{advance, columnWidth}
-use Rattle.printer.specs.Codes.{twoCode, imageModeNumber}
-use Rattle.printer.specs.Types.{ListPart, Mode, Opening, Page, Parameter, Side, Tabs, Pitch, StartSettings, Two, Width}
+use Rattle.printer.specs.Codes.{twoCode, secondCode, imageModeNumber}
+use Rattle.printer.specs.Types.{ListOpening, ListPart, Mode, Opening, Page, Parameter, Pitch, Second, Side, StartSettings, Two, Width}
 
 -- margins, page length, skip and line amount
 pub record Measures : Type 0 where
@@ -16,10 +18,11 @@ pub record Measures : Type 0 where
   pub skip : ℕ
   pub line : ℕ
 
--- the stops in force and those being gathered
+-- the stops in force, the vertical ones a list for each of the eight channels, and the channel chosen; those being gathered
 pub record Lists : Type 0 where
   pub columns : List ℕ
-  pub lines : List ℕ
+  pub channels : List (List ℕ)
+  pub chosen : ℕ
   pub gathered : List ℕ
 
 -- what a start has set and ESC @ keeps: D across and down, and the width of the paper. (Automatic line feed shows in the events.)
@@ -34,13 +37,24 @@ pub record Image : Type 0 where
   pub bytes : ℕ
   pub next : ℕ
 
--- what is kept, what the width of letters and of relative moves depends on, whether 80h to 9Fh print, the image, the measures, the stops
+-- what the stop list opened last sets: the columns, a channel, or nothing
+pub data ListSets : Type 0 where
+  setsColumns : ListSets
+  setsChannel : ℕ → ListSets
+  setsNothing : ListSets
+
+-- what was opened last, by the bytes received
+pub record Opened : Type 0 where
+  pub image : Image
+  pub list : ListSets
+
+-- what is kept, what the width of letters and of relative moves depends on, whether 80h to 9Fh print, what was opened, the measures, the stops
 pub record InForce : Type 0 where
   pub kept : Kept
   pub width : Width
   pub draft : Bool
   pub upper : Bool
-  pub image : Image
+  pub opened : Opened
   pub measures : Measures
   pub lists : Lists
 
@@ -70,6 +84,9 @@ image step bytes = record { step = step; bytes = bytes; next = 1 }
 abbrev pub noImage : Image
 noImage = image 0 0
 
+abbrev pub noneOpened : Opened
+noneOpened = record { image = noImage; list = setsNothing }
+
 abbrev pub keeping : (dAcross dDown paper : ℕ) → Kept
 keeping dAcross dDown paper = record { dAcross = dAcross; dDown = dDown; paper = paper }
 
@@ -88,25 +105,26 @@ atStart k =
       width = width Pitch.Cpi10 0 false false false false;
       draft = false;
       upper = true;
-      image = noImage;
+      opened = noneOpened;
       measures = record { left = 0; right = k .paper; page = 39600; skip = 0; line = 600 };
       lists =
           record {
             columns = 8 ∷ 16 ∷ 24 ∷ 32 ∷ 40 ∷ 48 ∷ 56 ∷ 64 ∷ 72 ∷ [];
-            lines = [];
+            channels = replicate 8 [];
+            chosen = 0;
             gathered = [];
           };
     }
 
-abbrev inForce : InForce → Width → (draft upper : Bool) → Image → Measures → Lists → InForce
+abbrev inForce : InForce → Width → (draft upper : Bool) → Opened → Measures → Lists → InForce
 inForce f w draft upper g m l =
-    record { kept = f .kept; width = w; draft = draft; upper = upper; image = g; measures = m; lists = l }
+    record { kept = f .kept; width = w; draft = draft; upper = upper; opened = g; measures = m; lists = l }
 
 abbrev widthInForce : InForce → Width → InForce
-widthInForce f w = inForce f w (f .draft) (f .upper) (f .image) (f .measures) (f .lists)
+widthInForce f w = inForce f w (f .draft) (f .upper) (f .opened) (f .measures) (f .lists)
 
 abbrev measuresInForce : InForce → Measures → InForce
-measuresInForce f m = inForce f (f .width) (f .draft) (f .upper) (f .image) m (f .lists)
+measuresInForce f m = inForce f (f .width) (f .draft) (f .upper) (f .opened) m (f .lists)
 
 abbrev marginsInForce : InForce → ℕ → ℕ → InForce
 marginsInForce f left right =
@@ -128,9 +146,14 @@ abbrev pub pageInForce : InForce → Page → InForce
 pageInForce f (Page.Lines n) = paperInForce f (n * f .measures .line) 0 (f .measures .line)
 pageInForce f (Page.Inches n) = paperInForce f (3600 * n) 0 (f .measures .line)
 
-abbrev listsInForce : InForce → (columns lines gathered : List ℕ) → InForce
-listsInForce f columns lines gathered =
-    inForce f (f .width) (f .draft) (f .upper) (f .image) (f .measures) (record { columns = columns; lines = lines; gathered = gathered })
+abbrev listsInForce : InForce → (columns : List ℕ) → (channels : List (List ℕ)) → (chosen : ℕ) → (gathered : List ℕ) → InForce
+listsInForce f columns channels chosen gathered =
+    inForce f (f .width) (f .draft) (f .upper) (f .opened) (f .measures)
+    (record { columns = columns; channels = channels; chosen = chosen; gathered = gathered })
+
+-- the vertical stops of the channel chosen
+abbrev pub linesIn : InForce → List ℕ
+linesIn f = getD (f .lists .channels) (f .lists .chosen) []
 
 abbrev lineInForce : InForce → ℕ → InForce
 lineInForce f n = paperInForce f (f .measures .page) (f .measures .skip) n
@@ -159,13 +182,16 @@ proportionalInForce f x =
     let w = f .width in widthInForce f (width (w .pitch) (w .spacing) (w .wide) (w .wideonce) (w .reduced) x)
 
 abbrev draftInForce : InForce → Bool → InForce
-draftInForce f x = inForce f (f .width) x (f .upper) (f .image) (f .measures) (f .lists)
+draftInForce f x = inForce f (f .width) x (f .upper) (f .opened) (f .measures) (f .lists)
 
 abbrev upperInForce : InForce → Bool → InForce
-upperInForce f x = inForce f (f .width) (f .draft) x (f .image) (f .measures) (f .lists)
+upperInForce f x = inForce f (f .width) (f .draft) x (f .opened) (f .measures) (f .lists)
+
+abbrev pub openedInForce : InForce → Opened → InForce
+openedInForce f x = inForce f (f .width) (f .draft) (f .upper) x (f .measures) (f .lists)
 
 abbrev pub imageInForce : InForce → Image → InForce
-imageInForce f x = inForce f (f .width) (f .draft) (f .upper) x (f .measures) (f .lists)
+imageInForce f x = openedInForce f (record { image = x; list = f .opened .list })
 
 -- SO begins or ends
 abbrev pub onceInForce : InForce → Bool → InForce
@@ -199,20 +225,40 @@ parameterInForce f Parameter.Master n =
     (width (pick (hasBit 1 n) Pitch.Cpi12 Pitch.Cpi10) (f .width .spacing) (hasBit 32 n)
     (pick (hasBit 32 n) (f .width .wideonce) false) (hasBit 4 n) (hasBit 2 n))
 
--- a list byte as a stop: a column, or lines of the amount in force
-abbrev pub ownStop : InForce → Tabs → ℕ → ℕ
-ownStop f Tabs.Horizontal n = n
-ownStop f Tabs.Vertical n = n * f .measures .line
+-- ESC / m
+abbrev pub chosenInForce : InForce → ℕ → InForce
+chosenInForce f n = let l = f .lists in listsInForce f (l .columns) (l .channels) n (l .gathered)
 
-abbrev endList : InForce → Tabs → InForce
-endList f Tabs.Horizontal = listsInForce f (f .lists .gathered) (f .lists .lines) []
-endList f Tabs.Vertical = listsInForce f (f .lists .columns) (f .lists .gathered) []
+-- a list opened, by the bytes received: ESC D or ESC B by the second byte, ESC b by its channel
+unfoldable pub listOfCode : ℕ → ListSets
+listOfCode n = lookup ((0x44, setsColumns) ∷ (0x42, setsChannel 0) ∷ []) setsNothing n
 
-abbrev pub listInForce : InForce → Tabs → ListPart → InForce
-listInForce f k ListPart.Open = listsInForce f (f .lists .columns) (f .lists .lines) []
-listInForce f k (ListPart.Byte b) =
-    listsInForce f (f .lists .columns) (f .lists .lines) (f .lists .gathered ++ (ownStop f k b ∷ []))
-listInForce f k (ListPart.End b) = endList f k
+abbrev pub openedSets : ListOpening → ListSets
+openedSets (ListOpening.Named t) = listOfCode (secondCode (Second.List t))
+openedSets (ListOpening.Channel m) = pick (leb m 7) (setsChannel m) setsNothing
+
+-- nothing is gathered yet
+abbrev pub openListInForce : InForce → ListOpening → InForce
+openListInForce f o =
+    let l = f .lists in
+    listsInForce (openedInForce f (record { image = f .opened .image; list = openedSets o })) (l .columns) (l .channels) (l .chosen) []
+
+-- the stop that a list byte makes: a column, or lines of the amount in force, or none
+abbrev pub ownStop : (line : ℕ) → ListSets → ℕ → List ℕ
+ownStop line setsColumns b = b ∷ []
+ownStop line (setsChannel m) b = b * line ∷ []
+ownStop line setsNothing b = []
+
+abbrev pub endList : InForce → ListSets → InForce
+endList f setsColumns = let l = f .lists in listsInForce f (l .gathered) (l .channels) (l .chosen) []
+endList f (setsChannel m) = let l = f .lists in listsInForce f (l .columns) (ListN.set (l .channels) m (l .gathered)) (l .chosen) []
+endList f setsNothing = f
+
+-- by what was opened, whatever the rules take the list for
+abbrev pub listInForce : InForce → ListPart → InForce
+listInForce f (ListPart.Byte b) =
+    let l = f .lists in listsInForce f (l .columns) (l .channels) (l .chosen) (l .gathered ++ ownStop (f .measures .line) (f .opened .list) b)
+listInForce f (ListPart.End b) = endList f (f .opened .list)
 
 -- an image opened, by the paper's numbers and the bytes received, not by the rules' tables: ESC K, L, Y, Z by the second byte
 unfoldable pub imageOfCode : ℕ → Image

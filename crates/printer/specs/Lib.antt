@@ -1,4 +1,4 @@
--- Document 01, with E1, E3 and E4 of document 02, as definitions.
+-- Document 01, with E1, E3, E4 and E6 of document 02, as definitions.
 
 -- The rules, which must be believed, in the paper's order where they can stand so.
 pub mod Types
@@ -39,6 +39,8 @@ pub mod Spelling
 pub mod Advanced
 -- image columns
 pub mod Columns
+-- vertical channels
+pub mod Vertical
 -- demand 3, the last two paragraphs of 'Commands': the reckoning's settings and places, the records that it says are written, the claim
 pub mod InForce
 pub mod Reckoning

@@ -1,14 +1,14 @@
--- Document 01, 'Widths' (what a letter is) and 'Commands', and document 02, E1 and E4: what each of the 256 bytes is, by the papers' numbers,
+-- Document 01, 'Widths' (what a letter is) and 'Commands', and document 02, E1, E4 and E6: what each of the 256 bytes is, by the papers' numbers,
 -- apart from the rules' own tables.
 use Prim.Native.Nat.{ℕ, zero, suc, _-_}
 use mathlib.Core.Path.{_≡_}
 use mathlib.Core.Bool.{Bool, true, false}
 use mathlib.Core.List.{List, [], _∷_, _++_, map}
-use Rattle.printer.specs.Tools.{pick, lookup}
+use Rattle.printer.specs.Tools.{pick, lookup, holds}
 use Rattle.printer.specs.Escapes.{parameterRow, choiceRow}
 use Rattle.printer.specs.Framing.{frame}
-use Rattle.printer.specs.Deciding.{skipRange, pageRange}
-use Rattle.printer.specs.Types.{Begun, Choice, Command, Control, Density, Frame, ImageMode, ListPart, Look, Mode, Move, One, Page, Parameter, Pitch, Refused, Side, Silent, Switch, Tabs, Two, Waiting}
+use Rattle.printer.specs.Deciding.{skipRange, pageRange, channelNeeds}
+use Rattle.printer.specs.Types.{Begun, Choice, Command, Control, Density, Frame, ImageMode, Listing, ListOpening, Look, Mode, Move, One, Page, Parameter, Pitch, Refused, Side, Silent, Switch, Tabs, Target, Two, Waiting}
 
 -- so many bytes, from one on
 unfoldable pub byteRange : (first count : ℕ) → List ℕ
@@ -80,8 +80,12 @@ parameter c = begins (Begun.One (One.Parameter c))
 abbrev choice : Choice → Frame
 choice c = begins (Begun.One (One.Choice c))
 
+abbrev setBy : Tabs → Target
+setBy Tabs.Horizontal = Target.Columns
+setBy Tabs.Vertical = Target.Channel 0
+
 abbrev list : Tabs → Frame
-list t = Frame.Whole (Command.List t ListPart.Open) (Waiting.StopList t 0)
+list t = Frame.Whole (Command.OpenList (ListOpening.Named t)) (Waiting.StopList (Listing.Sets (setBy t)) 0)
 
 abbrev otherSecond : ℕ → Frame
 otherSecond b = whole (Command.Refused (Refused.Escape b))
@@ -97,6 +101,7 @@ secondBytes =
     (0x2A, begins Begun.SelectMode) ∷
     (0x2B, parameter Parameter.Line360ths) ∷
     (0x2D, choice Choice.Underline) ∷
+    (0x2F, begins (Begun.One One.Channel)) ∷
     (0x30, mode Mode.EighthInchLine) ∷
     (0x32, mode Mode.SixthInchLine) ∷
     (0x33, parameter Parameter.Line180ths) ∷
@@ -128,6 +133,7 @@ secondBytes =
     (0x59, begins (Begun.FirstOf (Two.Image Density.DoubleSpeed))) ∷
     (0x5A, begins (Begun.FirstOf (Two.Image Density.Quadruple))) ∷
     (0x5C, begins (Begun.FirstOf (Two.Move Move.Relative))) ∷
+    (0x62, begins Begun.ListChannel) ∷
     (0x67, mode (Mode.Pitch Pitch.Cpi15)) ∷
     (0x69, begins Begun.Advanced) ∷
     (0x6B, choice Choice.Font) ∷
@@ -182,6 +188,7 @@ takesOne (One.Choice c) n = choiceRow c .takes n
 takesOne One.Skip n = skipRange n
 takesOne One.Feed n = true
 takesOne (One.Margin side) n = true
+takesOne One.Channel n = holds (channelNeeds n)
 
 -- 0, 1, 30h, 31h
 abbrev onOrOff : List ℕ
@@ -206,6 +213,7 @@ argumentsTaken =
     (takesOne (One.Choice Choice.Country), byteRange 0 14 ++ byteRange 0x40 1) ∷
     (takesOne (One.Choice Choice.Download), onOrOff) ∷
     (takesOne One.Skip, byteRange 1 127) ∷
+    (takesOne One.Channel, byteRange 0 8) ∷
     ((λ n. pageRange (Page.Lines n)), byteRange 1 127) ∷
     ((λ n. pageRange (Page.Inches n)), byteRange 1 22) ∷
     []

@@ -5,14 +5,15 @@ use mathlib.Core.List.{List, [], _∷_, _++_}
 use lib.Dec.{ltb, eqb}
 use lib.ListN.{getD}
 use lib.ListN as ListN
+use lib.Seq.{paste}
 use Rattle.printer.specs.Tools.{pick}
 use Rattle.printer.specs.Widths.{imageStep, imageBytes}
-use Rattle.printer.specs.Settings.{leftOf, rightOf, lineOf, edgeOf, relativeStep, advanceOf, columnOf, acrossOf, downOf, at, heldIn, withWidth, withReduced, withWideOnce, withMargins, withPage, withSkip}
-use Rattle.printer.specs.PowerOn.{powerOnSettings, powerOnStops, noStops}
+use Rattle.printer.specs.Settings.{leftOf, rightOf, lineOf, edgeOf, relativeStep, advanceOf, columnOf, acrossOf, downOf, at, heldIn, chosenStops, withWidth, withReduced, withWideOnce, withMargins, withPage, withSkip}
+use Rattle.printer.specs.PowerOn.{powerOnSettings, noStops, neverSet, startStops}
 use Rattle.printer.specs.Escapes.{modeRow, parameterRow, lookSettings}
 use Rattle.printer.specs.Records.{letterRecord, imageRecord, feedRecord, clearRecord, passedRecord, newTop}
 use Rattle.printer.specs.Codes.{shows}
-use Rattle.printer.specs.Types.{Command, Control, ImageMode, ListPart, Move, Page, Place, Printer, Record, Settings, Side, Stops, TabStops, Tabs}
+use Rattle.printer.specs.Types.{Channels, Command, Control, ImageMode, Listing, ListPart, Move, Page, Place, Printer, Record, Settings, Side, Stops, TabStops, Target}
 
 -- Events
 
@@ -84,29 +85,42 @@ columnPart m k = pick (eqb (imageBytes m) 1) 0 k
 
 -- Stops
 
-abbrev pub stopsOf : (columns lines : TabStops) → Bool → (gathered : TabStops) → Stops
-stopsOf c l set g = record { columns = c; lines = l; lineset = set; gathered = g }
+abbrev pub stopsOf : (columns : TabStops) → Channels → (gathered : TabStops) → Stops
+stopsOf c v g = record { columns = c; channels = v; gathered = g }
 
 abbrev pub gathering : Stops → TabStops → Stops
-gathering t g = stopsOf (t .columns) (t .lines) (t .lineset) g
+gathering t g = stopsOf (t .columns) (t .channels) g
 
 -- a list byte made a stop: a column, or n times the line amount, fixed then
-abbrev pub stopOf : Settings → Tabs → ℕ → ℕ
-stopOf s Tabs.Horizontal n = n
-stopOf s Tabs.Vertical n = n * lineOf s
+abbrev pub stopOf : Settings → Target → ℕ → ℕ
+stopOf s Target.Columns n = n
+stopOf s (Target.Channel m) n = n * lineOf s
 
 abbrev pub oneMore : TabStops → ℕ → TabStops
 oneMore l n = record { stops = ListN.set (l .stops) (l .count) n; count = l .count + 1 }
 
--- the list replaces the old one at its end
-abbrev pub listEnded : Stops → Tabs → Stops
-listEnded t Tabs.Horizontal = stopsOf (t .gathered) (t .lines) (t .lineset) noStops
-listEnded t Tabs.Vertical = stopsOf (t .columns) (t .gathered) true noStops
+-- document 02, E6: the channel that VT uses; and one channel set, in its sixteen places: the others stay
+abbrev pub choosing : Channels → ℕ → Channels
+choosing c m = record { stops = c .stops; counts = c .counts; chosen = m }
 
-abbrev pub listStops : Settings → Stops → Tabs → ListPart → Stops
-listStops s t k ListPart.Open = gathering t noStops
-listStops s t k (ListPart.Byte b) = gathering t (oneMore (t .gathered) (stopOf s k b))
-listStops s t k (ListPart.End b) = listEnded t k
+abbrev pub withChannel : Channels → (m : ℕ) → TabStops → Channels
+withChannel c m l =
+    record {
+      stops = paste (c .stops) (16 * m) (l .stops) 16;
+      counts = ListN.set (c .counts) m (l .count + 1);
+      chosen = c .chosen;
+    }
+
+-- the list replaces the old one at its end
+abbrev pub listEnded : Stops → Target → Stops
+listEnded t Target.Columns = stopsOf (t .gathered) (t .channels) noStops
+listEnded t (Target.Channel m) = stopsOf (t .columns) (withChannel (t .channels) m (t .gathered)) noStops
+
+-- a list that is dropped changes nothing
+abbrev pub listStops : Settings → Stops → Listing → ListPart → Stops
+listStops s t (Listing.Sets k) (ListPart.Byte b) = gathering t (oneMore (t .gathered) (stopOf s k b))
+listStops s t (Listing.Sets k) (ListPart.End b) = listEnded t k
+listStops s t Listing.Dropped part = t
 
 -- Records
 
@@ -154,7 +168,7 @@ controlEffect s t x Control.LineFeed n = leaves (withWideOnce s false) (lineFed 
 controlEffect s t x Control.FormFeed n = leaves (withWideOnce s false) (at (leftOf s) 0) t (feed 1)
 controlEffect s t x Control.HorizontalTab n = leaves s (tabTo s (heldIn (t .columns)) x n) t silent
 controlEffect s t x Control.VerticalTab n =
-    leaves (withWideOnce s false) (verticalTo s (heldIn (t .lines)) x n) t (verticalFeed n)
+    leaves (withWideOnce s false) (verticalTo s (heldIn (chosenStops t)) x n) t (verticalFeed n)
 controlEffect s t x Control.Backspace n = leaves s (at (acrossOf x - advanceOf s) (downOf x)) t silent
 controlEffect s t x Control.ShiftOut n = leaves (withWideOnce s true) x t silent
 controlEffect s t x Control.ShiftIn n = leaves (withWidth s (withReduced (s .width) true)) x t silent
@@ -172,7 +186,7 @@ effect s t x (Command.Letter b) n =
 effect s t x (Command.Control c b) n = effectOfControl s t x c n
 effect s t x (Command.Refused r) n = leaves s x t silent
 effect s t x (Command.Silent k) n = leaves s x t silent
-effect s t x Command.Reset n = leaves (powerOnSettings (s .setup)) (at 0 0) powerOnStops (feed newTop)
+effect s t x Command.Reset n = leaves (powerOnSettings (s .setup)) (at 0 0) (startStops (neverSet (t .channels .stops))) (feed newTop)
 effect s t x (Command.Mode c) n = leaves (modeRow c .sets s 0) x t silent
 effect s t x (Command.Parameter c a) n = leaves (parameterRow c .sets s a) x t silent
 effect s t x (Command.Look k) n = leaves (lookSettings s k) x t silent
@@ -189,6 +203,8 @@ effect s t x (Command.Move m a b) n = leaves s (at (moveTo s x m (a + 256 * b)) 
 effect s t x (Command.OpenImage o a b) n = leaves s x t silent
 effect s t x (Command.ImageByte m k b) n =
     leaves s (at (acrossOf x + columnMove m k) (downOf x)) t (imageByte b (columnPart m k) (imageStep m))
+effect s t x (Command.Channel a) n = leaves s x (stopsOf (t .columns) (choosing (t .channels) a) (t .gathered)) silent
+effect s t x (Command.OpenList o) n = leaves s x (gathering t noStops) silent
 effect s t x (Command.List k part) n = leaves s x (listStops s t k part) silent
 
 abbrev pub effectAt : Printer → Command → ℕ → Effect

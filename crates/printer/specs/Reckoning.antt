@@ -8,7 +8,7 @@ use lib.ListN.{getD}
 use Rattle.printer.specs.Tools.{pick}
 use Rattle.printer.specs.Performing.{Event, done, passed, inside, automatic, Writing, silent, letter, imageByte, feed, clear}
 use Rattle.printer.specs.Types.{Command, Control, Mark, Move, StartSettings}
-use Rattle.printer.specs.InForce.{InForce, advanceIn, columnIn, keptBy, atStart, onceInForce, reducedInForce, marginInForce, pageInForce, skipInForce, imageInForce, opened, byteReceived, partNext, moveNext, modeInForce, parameterInForce, listInForce}
+use Rattle.printer.specs.InForce.{InForce, advanceIn, columnIn, keptBy, atStart, onceInForce, reducedInForce, marginInForce, pageInForce, skipInForce, openedInForce, imageInForce, opened, byteReceived, partNext, moveNext, modeInForce, parameterInForce, linesIn, chosenInForce, openListInForce, listInForce}
 
 -- Places
 
@@ -103,7 +103,7 @@ controlChange f Control.FormFeed n = change (onceInForce f false) (sets (f .meas
 controlChange f Control.HorizontalTab n =
     change f (tabMotion (λ m. f .measures .left + getD (f .lists .columns) m 0 * columnIn f) n) stays silent
 controlChange f Control.VerticalTab n =
-    change (onceInForce f false) (tabMotion (λ m. f .measures .left) n) (tabMotion (λ m. getD (f .lists .lines) m 0) n) (tabFeed n)
+    change (onceInForce f false) (tabMotion (λ m. f .measures .left) n) (tabMotion (λ m. getD (linesIn f) m 0) n) (tabFeed n)
 controlChange f Control.Backspace n = change f (moves 0 (advanceIn f)) stays silent
 controlChange f Control.ShiftOut n = inForceOnly (onceInForce f true)
 controlChange f Control.ShiftIn n = inForceOnly (reducedInForce f true)
@@ -140,8 +140,10 @@ changeOf f (Command.Page g) n = change (pageInForce f g) stays (sets 0) (feed 25
 changeOf f (Command.Move m a b) n = change f (moveMotion f m a b) stays silent
 changeOf f (Command.OpenImage o a b) n = inForceOnly (imageInForce f (opened o))
 changeOf f (Command.ImageByte m k b) n =
-    change (imageInForce f (byteReceived (f .image))) (moves (moveNext (f .image)) 0) stays (imageByte b (partNext (f .image)) (f .image .step))
-changeOf f (Command.List k part) n = inForceOnly (listInForce f k part)
+    change (imageInForce f (byteReceived (f .opened .image))) (moves (moveNext (f .opened .image)) 0) stays (imageByte b (partNext (f .opened .image)) (f .opened .image .step))
+changeOf f (Command.Channel a) n = inForceOnly (chosenInForce f a)
+changeOf f (Command.OpenList o) n = inForceOnly (openListInForce f o)
+changeOf f (Command.List k part) n = inForceOnly (listInForce f part)
 
 -- The reckoning
 
@@ -155,18 +157,11 @@ pub record Reckoning : Type 0 where
 abbrev pub begun : StartSettings → Reckoning
 begun settings = record { force = atStart (keptBy settings); across = origin; down = origin }
 
--- what is passed over changes nothing in force; but an image byte was received
-abbrev pub passedInForce : InForce → Writing → InForce
-passedInForce f silent = f
-passedInForce f (letter b n) = f
-passedInForce f (imageByte b part n) = imageInForce f (byteReceived (f .image))
-passedInForce f (feed pages) = f
-passedInForce f clear = f
-
--- what an event does
+-- what an event does; what is passed over changes nothing in force but what was opened: an image byte was received, or ESC b opened a list that
+-- is dropped
 abbrev pub changeBy : InForce → Event → Change
 changeBy f (done c n) = changeOf f c n
-changeBy f (passed c reason) = inForceOnly (passedInForce f (changeOf f c 0 .writing))
+changeBy f (passed c reason) = inForceOnly (openedInForce f (changeOf f c 0 .force .opened))
 changeBy f (inside c n) = controlChange f c n
 changeBy f (automatic n) = controlChange f Control.LineFeed n
 

@@ -1,12 +1,12 @@
 -- The settings with one part changed, and short names for some of their parts.
-use Prim.Native.Nat.{ℕ, _-_}
+use Prim.Native.Nat.{ℕ, _*_, _-_}
 use mathlib.Core.Bool.{Bool}
-use lib.ListN.{take}
+use lib.ListN.{getD, take, drop}
 use mathlib.Core.List.{List}
 use Rattle.printer.specs.Tools.{pick}
 use Rattle.printer.specs.Units.{units}
 use Rattle.printer.specs.Widths.{advance, columnWidth}
-use Rattle.printer.specs.Types.{Emphasis, Face, Margins, Paper, Pitch, Place, Script, Settings, Setup, TabStops, Width}
+use Rattle.printer.specs.Types.{Channels, Emphasis, Face, Margins, Paper, Pitch, Place, Script, Settings, Setup, Stops, TabStops, Width}
 
 -- Parts
 
@@ -56,6 +56,17 @@ at x y = record { across = units x; down = units y }
 -- the stops that are held
 abbrev pub heldIn : TabStops → List ℕ
 heldIn l = take (l .count) (l .stops)
+
+-- document 02, E6: a channel's count, which is 0 if it was never set; and its stops, in its sixteen places, one less than its count
+abbrev pub channelCount : Channels → ℕ → ℕ
+channelCount c m = getD (c .counts) m 0
+
+abbrev pub channelStops : Channels → ℕ → TabStops
+channelStops c m = record { stops = take 16 (drop (16 * m) (c .stops)); count = channelCount c m - 1 }
+
+-- those of the chosen one
+abbrev pub chosenStops : Stops → TabStops
+chosenStops t = channelStops (t .channels) (t .channels .chosen)
 
 -- Makers, since a record is not changed in a part
 

@@ -13,6 +13,8 @@ pub use Rattle.printer.specs.declared.commands.Opening.{Opening}
 pub use Rattle.printer.specs.declared.commands.Selected.{Selected}
 pub use Rattle.printer.specs.declared.commands.First.{First}
 pub use Rattle.printer.specs.declared.commands.Frame.{Frame}
+pub use Rattle.printer.specs.declared.commands.Listing.{Listing}
+pub use Rattle.printer.specs.declared.commands.ListOpening.{ListOpening}
 pub use Rattle.printer.specs.declared.commands.ListPart.{ListPart}
 pub use Rattle.printer.specs.declared.commands.Look.{Look}
 pub use Rattle.printer.specs.declared.commands.Mode.{Mode}
@@ -26,6 +28,7 @@ pub use Rattle.printer.specs.declared.commands.Side.{Side}
 pub use Rattle.printer.specs.declared.commands.Silent.{Silent}
 pub use Rattle.printer.specs.declared.commands.Switch.{Switch}
 pub use Rattle.printer.specs.declared.commands.Tabs.{Tabs}
+pub use Rattle.printer.specs.declared.commands.Target.{Target}
 pub use Rattle.printer.specs.declared.commands.Two.{Two}
 pub use Rattle.printer.specs.declared.commands.Waiting.{Waiting}
 pub use Rattle.printer.specs.declared.records.Mark.{Mark}
@@ -42,6 +45,7 @@ pub use Rattle.printer.specs.declared.settings.StartSettings.{StartSetti
 pub use Rattle.printer.specs.declared.settings.Width.{Width}
 pub use Rattle.printer.specs.declared.state.Place.{Place}
 pub use Rattle.printer.specs.declared.state.Printer.{Printer}
+pub use Rattle.printer.specs.declared.stops.Channels.{Channels}
 pub use Rattle.printer.specs.declared.stops.Stop.{Stop}
 pub use Rattle.printer.specs.declared.stops.Stops.{Stops}
 pub use Rattle.printer.specs.declared.stops.TabStops.{TabStops}

@@ -1,21 +1,22 @@
 -- Worked cases: short inputs and states with what the papers say of them. The rows, `WorkedInputs` and `WorkedStates`, are written by cases/make
 -- from cases/short.txt and cases/states.txt, which were reckoned from the papers, not from these definitions.
-use Prim.Native.Nat.{ℕ, zero, suc, _-_}
+use Prim.Native.Nat.{ℕ, zero, suc, _*_, _-_}
 use mathlib.Core.Path.{_≡_}
 use mathlib.Core.Bool.{Bool, false}
 use mathlib.Core.List.{List, [], _∷_, _++_, map}
 use lib.Dec.{eqb}
-use lib.ListN.{length, drop, replicate}
+use lib.ListN.{length, drop, replicate, set}
+use lib.Seq.{paste}
 use Rattle.printer.specs.Tools.{pick, either}
 use Rattle.printer.specs.Units.{units}
 use Rattle.printer.specs.PowerOn.{stopRoom, powerOn}
 use Rattle.printer.specs.Settings.{leftOf, rightOf, pageOf, skipOf, lineOf, acrossOf, downOf, at, withWidth, withSpacing, withMargins, withPaper, withCountry, withOutline, settingsOf}
 use Rattle.printer.specs.Records.{encoded}
-use Rattle.printer.specs.Performing.{stopsOf}
+use Rattle.printer.specs.Performing.{stopsOf, choosing}
 use Rattle.printer.specs.Bounds.{accepted}
 use Rattle.printer.specs.Steps.{stateAfter, waitFor}
 use Rattle.printer.specs.Calls.{Run, numberOf, setupOf, plainStart, startOf, callOf}
-use Rattle.printer.specs.Types.{Mark, Place, Printer, Record, Settings, StartSettings, Stops, TabStops, Waiting}
+use Rattle.printer.specs.Types.{Channels, Mark, Place, Printer, Record, Settings, StartSettings, Stops, TabStops, Waiting}
 
 -- Records by their fields
 
@@ -76,7 +77,7 @@ no byte reason = shows (recordOf Mark.No 0 0 byte 0 reason 0 0)
 abbrev answered : ℕ → List Line
 answered n = pick (eqb n 0) [] (answer n ∷ [])
 
--- Parts of a state, as they are set: numbers; the stops held of a list, with its count; whether vertical stops were set; what is waited for
+-- Parts of a state, as they are set: numbers; the stops of a list, or of a channel, with its count; what is waited for
 
 pub data Part : Type 0 where
   across : Part
@@ -90,12 +91,12 @@ pub data Part : Type 0 where
   spacing : Part
   country : Part
   outline : Part
+  chosen : Part
 
 pub data Change : Type 0 where
   sets : Part → ℕ → Change
   columns : (count : ℕ) → List ℕ → Change
-  vertical : (count : ℕ) → List ℕ → Change
-  verticalSet : Bool → Change
+  channel : (m count : ℕ) → List ℕ → Change
   gathered : (count : ℕ) → List ℕ → Change
   waits : Waiting → Change
 
@@ -125,16 +126,21 @@ withPart p paperWidth n = withSettings p (withPaperWidth (p .settings) n)
 withPart p spacing n = let s = p .settings in withSettings p (withWidth s (withSpacing (s .width) n))
 withPart p country n = withSettings p (withCountry (p .settings) n)
 withPart p outline n = withSettings p (withOutline (p .settings) n)
+withPart p chosen n = let t = p .stops in withStops p (stopsOf (t .columns) (choosing (t .channels) n) (t .gathered))
 
 abbrev held : (count : ℕ) → List ℕ → TabStops
 held count l = record { stops = l ++ replicate (stopRoom - length l) 0; count = count }
 
+-- a channel's count, and its first places
+abbrev withPlaces : Channels → (m count : ℕ) → List ℕ → Channels
+withPlaces c m count l =
+    record { stops = paste (c .stops) (16 * m) l (length l); counts = set (c .counts) m count; chosen = c .chosen }
+
 abbrev withChange : Printer → Change → Printer
 withChange p (sets part n) = withPart p part n
-withChange p (columns n l) = let t = p .stops in withStops p (stopsOf (held n l) (t .lines) (t .lineset) (t .gathered))
-withChange p (vertical n l) = let t = p .stops in withStops p (stopsOf (t .columns) (held n l) (t .lineset) (t .gathered))
-withChange p (verticalSet b) = let t = p .stops in withStops p (stopsOf (t .columns) (t .lines) b (t .gathered))
-withChange p (gathered n l) = let t = p .stops in withStops p (stopsOf (t .columns) (t .lines) (t .lineset) (held n l))
+withChange p (columns n l) = let t = p .stops in withStops p (stopsOf (held n l) (t .channels) (t .gathered))
+withChange p (channel m n l) = let t = p .stops in withStops p (stopsOf (t .columns) (withPlaces (t .channels) m n l) (t .gathered))
+withChange p (gathered n l) = let t = p .stops in withStops p (stopsOf (t .columns) (t .channels) (held n l))
 withChange p (waits w) = waitFor p w
 
 unfoldable pub changed : Printer → List Change → Printer

@@ -1,8 +1,8 @@
 -- Short inputs, written by cases/make from cases/short.txt.
 use mathlib.Core.Bool.{true, false}
 use mathlib.Core.List.{List, [], _∷_}
-use Rattle.printer.specs.Worked.{InputRow, limited, from, plain, leaving, answer, tx, im, ln, cl, no, sets, waits, across, down, left, right, page, skip, line, paperWidth, spacing}
-use Rattle.printer.specs.Types.{ImageMode, Waiting}
+use Rattle.printer.specs.Worked.{InputRow, limited, from, plain, leaving, answer, tx, im, ln, cl, no, sets, channel, waits, across, down, left, right, page, skip, line, paperWidth, spacing, chosen}
+use Rattle.printer.specs.Types.{ImageMode, Listing, Waiting}
 
 unfoldable pub workedInputs : List InputRow
 workedInputs =
@@ -415,4 +415,29 @@ workedInputs =
     leaving (sets right 7201 ∷ [])
     (from 300 false 7201 (0x1B ∷ 0x24 ∷ 0x72 ∷ 0x00 ∷ 0x41 ∷ 0x42 ∷ [])
     (tx 570 0 0x41 0 0 0 360 ∷ ln 50 0 ∷ tx 0 50 0x42 0 0 0 360 ∷ [])) ∷
+    -- short-channel-set
+    leaving (channel 5 2 (1200 ∷ []) ∷ sets chosen 5 ∷ [])
+    (plain (0x1B ∷ 0x62 ∷ 0x05 ∷ 0x02 ∷ 0x00 ∷ 0x1B ∷ 0x2F ∷ 0x05 ∷ 0x0B ∷ [])
+    (ln 100 0 ∷ [])) ∷
+    -- short-channel-capital
+    leaving (channel 0 2 (1200 ∷ []) ∷ [])
+    (plain (0x1B ∷ 0x2F ∷ 0x03 ∷ 0x1B ∷ 0x42 ∷ 0x02 ∷ 0x00 ∷ 0x0B ∷ 0x1B ∷ 0x2F ∷ 0x00 ∷ 0x0B ∷ [])
+    (ln 50 0 ∷ ln 100 0 ∷ [])) ∷
+    -- short-channel-empty
+    leaving (channel 0 0 ([]) ∷ channel 3 1 ([]) ∷ [])
+    (plain (0x1B ∷ 0x62 ∷ 0x03 ∷ 0x00 ∷ 0x0B ∷ 0x1B ∷ 0x2F ∷ 0x03 ∷ 0x41 ∷ 0x0B ∷ 0x42 ∷ [])
+    (ln 50 0 ∷ tx 0 50 0x41 0 0 0 360 ∷ tx 0 50 0x42 0 0 0 360 ∷ [])) ∷
+    -- short-channel-reset
+    plain (0x1B ∷ 0x62 ∷ 0x03 ∷ 0x02 ∷ 0x00 ∷ 0x1B ∷ 0x2F ∷ 0x03 ∷ 0x1B ∷ 0x40 ∷ 0x1B ∷ 0x42 ∷ 0x04 ∷ 0x00 ∷ 0x0B ∷ 0x1B ∷ 0x2F ∷ 0x03 ∷ 0x0B ∷ [])
+    (ln 0 255 ∷ ln 200 0 ∷ ln 250 0 ∷ []) ∷
+    -- short-channel-none
+    leaving (waits (Waiting.StopList Listing.Dropped 65) ∷ channel 0 0 ([]) ∷ sets chosen 0 ∷ [])
+    (plain (0x1B ∷ 0x2F ∷ 0x08 ∷ 0x1B ∷ 0x2F ∷ 0x30 ∷ 0x1B ∷ 0x62 ∷ 0x08 ∷ 0x05 ∷ 0x51 ∷ 0x51 ∷ 0x0B ∷ 0x1B ∷ 0x62 ∷ 0xFF ∷ 0x41 ∷ [])
+    (no 0x2F 2 ∷ no 0x2F 2 ∷ no 0x62 2 ∷ ln 50 0 ∷ no 0x62 2 ∷ [])) ∷
+    -- short-channel-limits
+    leaving (channel 0 1 ([]) ∷
+    channel 7 17 (450 ∷ 900 ∷ 1350 ∷ 1800 ∷ 2250 ∷ 2700 ∷ 3150 ∷ 3600 ∷ 4050 ∷ 4500 ∷ 4950 ∷ 5400 ∷ 5850 ∷ 6300 ∷ 6750 ∷ 7200 ∷ []) ∷ [])
+    (plain (0x1B ∷ 0x4E ∷ 0x01 ∷ 0x1B ∷ 0x62 ∷ 0x00 ∷ 0x41 ∷ 0x00 ∷ 0x1B ∷ 0x30 ∷ 0x1B ∷ 0x62 ∷ 0x07 ∷ 0x01 ∷ 0x02 ∷ 0x03 ∷ 0x04 ∷ 0x05 ∷ 0x06 ∷ 0x07 ∷
+    0x08 ∷ 0x09 ∷ 0x0A ∷ 0x0B ∷ 0x0C ∷ 0x0D ∷ 0x0E ∷ 0x0F ∷ 0x10 ∷ 0x11 ∷ 0x00 ∷ [])
+    (no 0x41 3 ∷ no 0x11 3 ∷ [])) ∷
     []

@@ -1,8 +1,8 @@
 -- States at their bounds, written by cases/make from cases/states.txt.
 use mathlib.Core.Bool.{true, false}
 use mathlib.Core.List.{List, [], _∷_}
-use Rattle.printer.specs.Worked.{StateRow, state, sets, columns, vertical, verticalSet, gathered, waits, across, down, left, right, page, skip, line, paperWidth, spacing, country, outline}
-use Rattle.printer.specs.Types.{Begun, ImageMode, Move, One, Parameter, Tabs, Two, Waiting}
+use Rattle.printer.specs.Worked.{StateRow, state, sets, columns, channel, gathered, waits, across, down, left, right, page, skip, line, paperWidth, spacing, country, outline, chosen}
+use Rattle.printer.specs.Types.{Begun, ImageMode, Listing, Move, One, Parameter, Target, Two, Waiting}
 
 unfoldable pub workedStates : List StateRow
 workedStates =
@@ -75,53 +75,75 @@ workedStates =
     columns 32 (1 ∷ 2 ∷ 3 ∷ 4 ∷ 5 ∷ 6 ∷ 7 ∷ 8 ∷ 9 ∷ 10 ∷ 11 ∷ 12 ∷ 13 ∷ 14 ∷ 15 ∷ 16 ∷ 17 ∷ 18 ∷ 19 ∷ 20 ∷ 21 ∷ 22 ∷ 23 ∷ 24 ∷ 25 ∷ 26 ∷ 27 ∷ 28 ∷ 29 ∷ 30 ∷
     32 ∷ 32 ∷ []) ∷
     []) ∷
-    state true (vertical 0 ([]) ∷ verticalSet false ∷ []) ∷
-    state true (vertical 0 ([]) ∷ verticalSet true ∷ []) ∷
-    state false (vertical 1 (600 ∷ []) ∷ verticalSet false ∷ []) ∷
-    state true (vertical 1 (1 ∷ []) ∷ verticalSet true ∷ []) ∷
-    state false (vertical 1 (0 ∷ []) ∷ verticalSet true ∷ []) ∷
-    state true (vertical 1 (79199 ∷ []) ∷ verticalSet true ∷ []) ∷
-    state false (vertical 1 (79200 ∷ []) ∷ verticalSet true ∷ []) ∷
-    state true (vertical 16 (1 ∷ 2 ∷ 3 ∷ 4 ∷ 5 ∷ 6 ∷ 7 ∷ 8 ∷ 9 ∷ 10 ∷ 11 ∷ 12 ∷ 13 ∷ 14 ∷ 15 ∷ 16 ∷ []) ∷ verticalSet true ∷ []) ∷
-    state false (vertical 17 (1 ∷ 2 ∷ 3 ∷ 4 ∷ 5 ∷ 6 ∷ 7 ∷ 8 ∷ 9 ∷ 10 ∷ 11 ∷ 12 ∷ 13 ∷ 14 ∷ 15 ∷ 16 ∷ 17 ∷ []) ∷ verticalSet true ∷ []) ∷
-    state false (vertical 2 (600 ∷ 600 ∷ []) ∷ verticalSet true ∷ []) ∷
-    state false (vertical 2 (1200 ∷ 600 ∷ []) ∷ verticalSet true ∷ []) ∷
+    state true (channel 0 1 ([]) ∷ []) ∷
+    state true (channel 7 1 ([]) ∷ []) ∷
+    state true (channel 0 0 (600 ∷ []) ∷ []) ∷
+    state true (channel 0 2 (1 ∷ []) ∷ []) ∷
+    state false (channel 0 2 (0 ∷ []) ∷ []) ∷
+    state true (channel 0 2 (79199 ∷ []) ∷ []) ∷
+    state false (channel 0 2 (79200 ∷ []) ∷ []) ∷
+    state true (channel 7 2 (79199 ∷ []) ∷ []) ∷
+    state false (channel 7 2 (79200 ∷ []) ∷ []) ∷
+    state true (channel 0 17 (1 ∷ 2 ∷ 3 ∷ 4 ∷ 5 ∷ 6 ∷ 7 ∷ 8 ∷ 9 ∷ 10 ∷ 11 ∷ 12 ∷ 13 ∷ 14 ∷ 15 ∷ 16 ∷ []) ∷ []) ∷
+    state false (channel 0 18 (1 ∷ 2 ∷ 3 ∷ 4 ∷ 5 ∷ 6 ∷ 7 ∷ 8 ∷ 9 ∷ 10 ∷ 11 ∷ 12 ∷ 13 ∷ 14 ∷ 15 ∷ 16 ∷ []) ∷ []) ∷
+    state true (channel 7 17 (1 ∷ 2 ∷ 3 ∷ 4 ∷ 5 ∷ 6 ∷ 7 ∷ 8 ∷ 9 ∷ 10 ∷ 11 ∷ 12 ∷ 13 ∷ 14 ∷ 15 ∷ 16 ∷ []) ∷ []) ∷
+    state false (channel 7 18 (1 ∷ 2 ∷ 3 ∷ 4 ∷ 5 ∷ 6 ∷ 7 ∷ 8 ∷ 9 ∷ 10 ∷ 11 ∷ 12 ∷ 13 ∷ 14 ∷ 15 ∷ 16 ∷ []) ∷ []) ∷
+    state false (channel 0 3 (600 ∷ 600 ∷ []) ∷ []) ∷
+    state false (channel 7 3 (1200 ∷ 600 ∷ []) ∷ []) ∷
+    state true (channel 7 2 (1200 ∷ 600 ∷ []) ∷ []) ∷
+    state false (channel 1 2 (0 ∷ []) ∷ []) ∷
+    state false (channel 2 2 (0 ∷ []) ∷ []) ∷
+    state false (channel 3 2 (0 ∷ []) ∷ []) ∷
+    state false (channel 4 2 (0 ∷ []) ∷ []) ∷
+    state false (channel 5 2 (0 ∷ []) ∷ []) ∷
+    state false (channel 6 2 (0 ∷ []) ∷ []) ∷
+    state true (sets chosen 7 ∷ []) ∷
+    state false (sets chosen 8 ∷ []) ∷
     state true (gathered 2 (4 ∷ 3 ∷ []) ∷ []) ∷
     state true (
     gathered 40 (0 ∷ 1 ∷ 2 ∷ 3 ∷ 4 ∷ 5 ∷ 6 ∷ 7 ∷ 8 ∷ 9 ∷ 10 ∷ 11 ∷ 12 ∷ 13 ∷ 14 ∷ 15 ∷ 16 ∷ 17 ∷ 18 ∷ 19 ∷ 20 ∷ 21 ∷ 22 ∷ 23 ∷ 24 ∷ 25 ∷ 26 ∷ 27 ∷ 28 ∷ 29 ∷
     30 ∷ 31 ∷ []) ∷
     []) ∷
-    state true (waits (Waiting.StopList Tabs.Horizontal 0) ∷ gathered 0 ([]) ∷ []) ∷
-    state true (waits (Waiting.StopList Tabs.Horizontal 255) ∷ gathered 0 ([]) ∷ []) ∷
-    state true (waits (Waiting.StopList Tabs.Horizontal 5) ∷ gathered 1 (5 ∷ []) ∷ []) ∷
-    state false (waits (Waiting.StopList Tabs.Horizontal 4) ∷ gathered 1 (5 ∷ []) ∷ []) ∷
-    state true (waits (Waiting.StopList Tabs.Horizontal 255) ∷ gathered 2 (1 ∷ 255 ∷ []) ∷ []) ∷
-    state false (waits (Waiting.StopList Tabs.Horizontal 255) ∷ gathered 1 (0 ∷ []) ∷ []) ∷
-    state false (waits (Waiting.StopList Tabs.Horizontal 255) ∷ gathered 2 (4 ∷ 4 ∷ []) ∷ []) ∷
-    state false (waits (Waiting.StopList Tabs.Horizontal 255) ∷ gathered 2 (4 ∷ 3 ∷ []) ∷ []) ∷
-    state true (waits (Waiting.StopList Tabs.Horizontal 255) ∷
+    state true (waits (Waiting.StopList (Listing.Sets Target.Columns) 0) ∷ gathered 0 ([]) ∷ []) ∷
+    state true (waits (Waiting.StopList (Listing.Sets Target.Columns) 255) ∷ gathered 0 ([]) ∷ []) ∷
+    state true (waits (Waiting.StopList (Listing.Sets Target.Columns) 5) ∷ gathered 1 (5 ∷ []) ∷ []) ∷
+    state false (waits (Waiting.StopList (Listing.Sets Target.Columns) 4) ∷ gathered 1 (5 ∷ []) ∷ []) ∷
+    state true (waits (Waiting.StopList (Listing.Sets Target.Columns) 255) ∷ gathered 2 (1 ∷ 255 ∷ []) ∷ []) ∷
+    state false (waits (Waiting.StopList (Listing.Sets Target.Columns) 255) ∷ gathered 1 (0 ∷ []) ∷ []) ∷
+    state false (waits (Waiting.StopList (Listing.Sets Target.Columns) 255) ∷ gathered 2 (4 ∷ 4 ∷ []) ∷ []) ∷
+    state false (waits (Waiting.StopList (Listing.Sets Target.Columns) 255) ∷ gathered 2 (4 ∷ 3 ∷ []) ∷ []) ∷
+    state true (waits (Waiting.StopList (Listing.Sets Target.Columns) 255) ∷
     gathered 32 (1 ∷ 2 ∷ 3 ∷ 4 ∷ 5 ∷ 6 ∷ 7 ∷ 8 ∷ 9 ∷ 10 ∷ 11 ∷ 12 ∷ 13 ∷ 14 ∷ 15 ∷ 16 ∷ 17 ∷ 18 ∷ 19 ∷ 20 ∷ 21 ∷ 22 ∷ 23 ∷ 24 ∷ 25 ∷ 26 ∷ 27 ∷ 28 ∷ 29 ∷ 30 ∷
     31 ∷ 32 ∷ []) ∷
     []) ∷
-    state false (waits (Waiting.StopList Tabs.Horizontal 255) ∷
+    state false (waits (Waiting.StopList (Listing.Sets Target.Columns) 255) ∷
     gathered 33 (1 ∷ 2 ∷ 3 ∷ 4 ∷ 5 ∷ 6 ∷ 7 ∷ 8 ∷ 9 ∷ 10 ∷ 11 ∷ 12 ∷ 13 ∷ 14 ∷ 15 ∷ 16 ∷ 17 ∷ 18 ∷ 19 ∷ 20 ∷ 21 ∷ 22 ∷ 23 ∷ 24 ∷ 25 ∷ 26 ∷ 27 ∷ 28 ∷ 29 ∷ 30 ∷
     31 ∷ 32 ∷ []) ∷
     []) ∷
-    state true (waits (Waiting.StopList Tabs.Vertical 2) ∷ gathered 2 (600 ∷ 1200 ∷ []) ∷ []) ∷
-    state false (waits (Waiting.StopList Tabs.Vertical 2) ∷ gathered 2 (600 ∷ 1201 ∷ []) ∷ []) ∷
-    state true (waits (Waiting.StopList Tabs.Vertical 127) ∷ gathered 16 (1 ∷ 2 ∷ 3 ∷ 4 ∷ 5 ∷ 6 ∷ 7 ∷ 8 ∷ 9 ∷ 10 ∷ 11 ∷ 12 ∷ 13 ∷ 14 ∷ 15 ∷ 16 ∷ []) ∷ []) ∷
-    state false (waits (Waiting.StopList Tabs.Vertical 127) ∷ gathered 17 (1 ∷ 2 ∷ 3 ∷ 4 ∷ 5 ∷ 6 ∷ 7 ∷ 8 ∷ 9 ∷ 10 ∷ 11 ∷ 12 ∷ 13 ∷ 14 ∷ 15 ∷ 16 ∷ 17 ∷ []) ∷
-    []) ∷
-    state true (waits (Waiting.StopList Tabs.Vertical 255) ∷ gathered 1 (79199 ∷ []) ∷ sets line 600 ∷ []) ∷
-    state false (waits (Waiting.StopList Tabs.Vertical 255) ∷ gathered 1 (79200 ∷ []) ∷ sets line 600 ∷ []) ∷
-    state false (waits (Waiting.StopList Tabs.Vertical 0) ∷ gathered 1 (1 ∷ []) ∷ []) ∷
-    state true (waits (Waiting.StopList Tabs.Vertical 1) ∷ gathered 0 ([]) ∷ sets line 0 ∷ []) ∷
-    state false (waits (Waiting.StopList Tabs.Vertical 1) ∷ gathered 1 (1 ∷ []) ∷ sets line 0 ∷ []) ∷
+    state true (waits (Waiting.StopList (Listing.Sets (Target.Channel 0)) 2) ∷ gathered 2 (600 ∷ 1200 ∷ []) ∷ []) ∷
+    state false (waits (Waiting.StopList (Listing.Sets (Target.Channel 0)) 2) ∷ gathered 2 (600 ∷ 1201 ∷ []) ∷ []) ∷
+    state true (waits (Waiting.StopList (Listing.Sets (Target.Channel 0)) 127) ∷
+    gathered 16 (1 ∷ 2 ∷ 3 ∷ 4 ∷ 5 ∷ 6 ∷ 7 ∷ 8 ∷ 9 ∷ 10 ∷ 11 ∷ 12 ∷ 13 ∷ 14 ∷ 15 ∷ 16 ∷ []) ∷ []) ∷
+    state false (waits (Waiting.StopList (Listing.Sets (Target.Channel 0)) 127) ∷
+    gathered 17 (1 ∷ 2 ∷ 3 ∷ 4 ∷ 5 ∷ 6 ∷ 7 ∷ 8 ∷ 9 ∷ 10 ∷ 11 ∷ 12 ∷ 13 ∷ 14 ∷ 15 ∷ 16 ∷ 17 ∷ []) ∷ []) ∷
+    state true (waits (Waiting.StopList (Listing.Sets (Target.Channel 0)) 255) ∷ gathered 1 (79199 ∷ []) ∷ sets line 600 ∷ []) ∷
+    state false (waits (Waiting.StopList (Listing.Sets (Target.Channel 0)) 255) ∷ gathered 1 (79200 ∷ []) ∷ sets line 600 ∷ []) ∷
+    state false (waits (Waiting.StopList (Listing.Sets (Target.Channel 0)) 0) ∷ gathered 1 (1 ∷ []) ∷ []) ∷
+    state true (waits (Waiting.StopList (Listing.Sets (Target.Channel 0)) 1) ∷ gathered 0 ([]) ∷ sets line 0 ∷ []) ∷
+    state false (waits (Waiting.StopList (Listing.Sets (Target.Channel 0)) 1) ∷ gathered 1 (1 ∷ []) ∷ sets line 0 ∷ []) ∷
+    state true (waits (Waiting.StopList (Listing.Sets (Target.Channel 7)) 2) ∷ gathered 2 (600 ∷ 1200 ∷ []) ∷ []) ∷
+    state false (waits (Waiting.StopList (Listing.Sets (Target.Channel 8)) 2) ∷ gathered 0 ([]) ∷ []) ∷
+    state false (waits (Waiting.StopList (Listing.Sets (Target.Channel 7)) 2) ∷ gathered 2 (600 ∷ 1201 ∷ []) ∷ []) ∷
+    state true (waits (Waiting.StopList Listing.Dropped 0) ∷ []) ∷
+    state true (waits (Waiting.StopList Listing.Dropped 255) ∷ gathered 2 (4 ∷ 3 ∷ []) ∷ []) ∷
+    state true (waits (Waiting.StopList Listing.Dropped 0) ∷ gathered 40 (600 ∷ []) ∷ []) ∷
     state true (waits (Waiting.SecondByte) ∷ []) ∷
     state true (waits (Waiting.Arguments (Begun.One (One.Parameter Parameter.Line60ths))) ∷ []) ∷
     state true (waits (Waiting.Arguments (Begun.PageLength)) ∷ []) ∷
     state true (waits (Waiting.Arguments (Begun.PageInches)) ∷ []) ∷
     state true (waits (Waiting.Arguments (Begun.SecondOf (Two.Move Move.Absolute) 255)) ∷ []) ∷
+    state true (waits (Waiting.Arguments (Begun.One One.Channel)) ∷ []) ∷
+    state true (waits (Waiting.Arguments (Begun.ListChannel)) ∷ []) ∷
     state true (waits (Waiting.Arguments (Begun.Advanced)) ∷ []) ∷
     state true (waits (Waiting.Arguments (Begun.CommandMode)) ∷ []) ∷
     state true (waits (Waiting.Arguments (Begun.ColumnsLow ImageMode.Hex24)) ∷ []) ∷

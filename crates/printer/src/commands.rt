@@ -1,5 +1,5 @@
 // The commands as received, and what the reader waits for between them.
-// `Frame`, `Command`, `Look`, `Refused`, `Silent`, `ListPart` and `Opening` are words of the definitions: no code builds them.
+// `Frame`, `Command`, `Look`, `Refused`, `Silent`, `ListPart`, `ListOpening` and `Opening` are words of the definitions: no code builds them.
 use crate::settings::Pitch;
 
 // The control bytes that are commands.
@@ -98,10 +98,28 @@ pub enum Opening {
     Selected(ImageMode),
 }
 
-// The two kinds of stop lists: ESC D, ESC B.
+// The escapes that open a stop list by themselves: ESC D, ESC B.
 pub enum Tabs {
     Horizontal,
     Vertical,
+}
+
+// What opens a stop list: ESC D, ESC B; or ESC b and a channel.
+pub enum ListOpening {
+    Named(Tabs),
+    Channel(u8),
+}
+
+// What a stop list sets: the columns, or a vertical channel.
+pub enum Target {
+    Columns,
+    Channel(u8),
+}
+
+// A stop list that is read: it sets stops, or it is dropped.
+pub enum Listing {
+    Sets(Target),
+    Dropped,
 }
 
 // The margins: ESC l, ESC Q.
@@ -122,9 +140,8 @@ pub enum Move {
     Relative,
 }
 
-// The bytes of a stop list: its escape's second byte, one that does not end it, and the one that does.
+// The bytes of a stop list: one that does not end it, and the one that does.
 pub enum ListPart {
-    Open,
     Byte(u8),
     End(u8),
 }
@@ -181,8 +198,12 @@ pub enum Command {
     OpenImage(Opening, u8, u8),
     // A byte of image data: which of its column's bytes it is, from 1, and the byte.
     ImageByte(ImageMode, u8, u8),
-    // ESC D, ESC B, and the bytes of their lists.
-    List(Tabs, ListPart),
+    // ESC / m.
+    Channel(u8),
+    // ESC D, ESC B, ESC b m.
+    OpenList(ListOpening),
+    // A byte of a stop list.
+    List(Listing, ListPart),
 }
 
 // The escapes with one argument.
@@ -192,6 +213,7 @@ pub enum One {
     Skip,
     Feed,
     Margin(Side),
+    Channel,
 }
 
 // The escapes with two arguments.
@@ -221,6 +243,8 @@ pub enum Begun {
     // The first byte of its number of columns, and the second, after the first.
     ColumnsLow(ImageMode),
     ColumnsHigh(ImageMode, u8),
+    // The channel of ESC b.
+    ListChannel,
 }
 
 // What the reader is still waiting for.
@@ -231,7 +255,7 @@ pub enum Waiting {
     // The arguments of an escape.
     Arguments(Begun),
     // A byte of a stop list, after the byte before (0 at its beginning).
-    StopList(Tabs, u8),
+    StopList(Listing, u8),
     // Image data: which byte of a column, from 1, and how many columns, that one included.
     ImageData(ImageMode, u8, u16),
 }

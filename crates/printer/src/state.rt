@@ -9,11 +9,12 @@ use crate::settings::Script;
 use crate::settings::Settings;
 use crate::settings::Setup;
 use crate::settings::Width;
+use crate::stops::Channels;
 use crate::stops::Stops;
 use crate::stops::TabStops;
 use crate::units::Units;
 ghost use mathlib.Core.Path.{_≡_};
-ghost use Rattle.printer.specs.PowerOn.{powerOn, powerOnSettings, powerOnStops, noStops};
+ghost use Rattle.printer.specs.PowerOn.{powerOn, powerOnSettings, powerOnStops, noStops, noChannels};
 
 pub struct Place {
     pub across: Units,
@@ -109,14 +110,26 @@ fn power_on_columns() -> TabStops
     TabStops { stops, count: 9 }
 }
 
+// All channels never set, and channel 0 chosen.
+fn no_channels() -> Channels
+    ensures { λ r. ⌜ r ≡ noChannels ⌝ }
+{
+    let stops = [0; Channels::ROOM];
+    let counts = [0; Channels::NUMBER];
+    Channels {
+        stops,
+        counts,
+        chosen: 0,
+    }
+}
+
 // Vertical stops never set, and none being gathered.
 fn power_on_stops() -> Stops
     ensures { λ r. ⌜ r ≡ powerOnStops ⌝ }
 {
     Stops {
         columns: power_on_columns(),
-        lines: no_stops(),
-        lineset: false,
+        channels: no_channels(),
         gathered: no_stops(),
     }
 }

@@ -7,11 +7,17 @@ pub struct TabStops {
     pub count: u32,
 }
 
-// `lineset` tells vertical stops that were set, though perhaps to none, from those never set.
+// The vertical channels. Channel m has the sixteen places from 16 m on; its count is 0 if it was never set, else one more than the stops that it
+// holds. `chosen` is the one that VT uses.
+pub struct Channels {
+    pub stops: [u32; Channels::ROOM],
+    pub counts: [u32; Channels::NUMBER],
+    pub chosen: u32,
+}
+
 pub struct Stops {
     pub columns: TabStops,
-    pub lines: TabStops,
-    pub lineset: bool,
+    pub channels: Channels,
     pub gathered: TabStops,
 }
 
@@ -24,4 +30,11 @@ pub enum Stop {
 impl TabStops {
     // How many stops an array has room for.
     pub const ROOM: usize = 32;
+}
+
+impl Channels {
+    // How many there are, and how many stops they have room for.
+    pub const NUMBER: usize = 8;
+
+    pub const ROOM: usize = 128;
 }

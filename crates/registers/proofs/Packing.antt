@@ -9,8 +9,8 @@ use Rattle.printer.specs.Accepted.{StopsTyped}
 use Rattle.printer.specs.declared.state.Printer.{Printer}
 use Rattle.printer.specs.declared.stops.TabStops.{TabStops}
 use Rattle.registers.specs.declared.pending.Pending.{Pending}
-use Rattle.registers.specs.Register.{linesSetAt, columnCountAt, lineCountAt, gatheredCountAt, registerCount}
-use Rattle.registers.specs.Layout.{flag, derivedOf, pendingWords, placeWords, settingsWords, derivedWords, laid, words}
+use Rattle.registers.specs.Register.{chosenAt, columnCountAt, gatheredCountAt, channelCountsAt, channelStopsAt, registerCount}
+use Rattle.registers.specs.Layout.{derivedOf, pendingWords, placeWords, settingsWords, derivedWords, laid, words}
 use Rattle.registers.specs.Stores.{stores, placeCells, settingsStored, over, listStored, stopsStored, staleIn}
 use Rattle.registers.proofs.Laying.{firsts, listed}
 
@@ -35,43 +35,49 @@ list-next h (y ∷ r) t from e k =
 abbrev front : Pending → Printer → List ℕ → List ℕ
 front v p l =
     pendingWords v (placeWords (p .place) (settingsWords (p .settings)
-    (derivedWords (derivedOf (p .settings)) (flag (p .stops .lineset) ∷ l))))
+    (derivedWords (derivedOf (p .settings)) (p .stops .channels .chosen ∷ l))))
 
 module _ (p : Printer) (m : List ℕ) (long : length m ≡ registerCount) where
   abbrev front-stored : List ℕ → List ℕ
-  front-stored l = set (settingsStored (p .settings) (stores (placeCells (p .place)) l)) linesSetAt (flag (p .stops .lineset))
+  front-stored l = set (settingsStored (p .settings) (stores (placeCells (p .place)) l)) chosenAt (p .stops .channels .chosen)
 
   front-words : front-stored m ≡ front (staleIn m) p (drop columnCountAt m)
   unfolding firsts settingsStored
   front-words = ap front-stored (listed columnCountAt m (omega arith))
 
-  regroup : (h a b c : List ℕ) → (((h ++ a) ++ b) ++ c) ++ [] ≡ h ++ (a ++ (b ++ (c ++ [])))
-  regroup h a b c = simp append-assoc
+  regroup : (h a b c d : List ℕ) → ((((h ++ a) ++ b) ++ c) ++ d) ++ [] ≡ h ++ (a ++ (b ++ (c ++ (d ++ []))))
+  regroup h a b c d = simp append-assoc
 
   pub packed-words : StopsTyped (p .stops)
       → stopsStored (p .stops) (settingsStored (p .settings) (stores (placeCells (p .place)) m)) ≡ words (staleIn m) p
   unfolding stopsStored laid
   packed-words t =
       let a = p .stops .columns in
-      let b = p .stops .lines in
-      let c = p .stops .gathered in
+      let b = p .stops .gathered in
+      let c = p .stops .channels .counts in
+      let d = p .stops .channels .stops in
       let h = front (staleIn m) p [] in
-      let n : length (drop columnCountAt m) ≡ 99 = simp length-drop (omega arith) in
+      let n : length (drop columnCountAt m) ≡ 202 = simp length-drop (omega arith) in
       let r : List ℕ = drop (suc (length (a .stops))) (drop columnCountAt m) in
       let s : List ℕ = drop (suc (length (b .stops))) r in
-      let hr : length r ≡ 66 = simp length-drop (omega (arith, t .columns)) in
-      let hs : length s ≡ 33 = simp length-drop (omega (arith, t .columns, t .lines)) in
-      let ha : length (h ++ both a) ≡ lineCountAt = simp length-append (omega (arith, t .columns)) in
-      let hb : length ((h ++ both a) ++ both b) ≡ gatheredCountAt = simp length-append (omega (arith, t .columns, t .lines)) in
+      let u : List ℕ = drop (length c) s in
+      let hr : length r ≡ 169 = simp length-drop (omega (arith, t .columns)) in
+      let hs : length s ≡ 136 = simp length-drop (omega (arith, t .columns, t .gathered)) in
+      let hu : length u ≡ 128 = simp length-drop (omega (arith, t .columns, t .gathered, t .counts)) in
+      let ha : length (h ++ both a) ≡ gatheredCountAt = simp length-append (omega (arith, t .columns)) in
+      let hb : length ((h ++ both a) ++ both b) ≡ channelCountsAt = simp length-append (omega (arith, t .columns, t .gathered)) in
+      let hc : length (((h ++ both a) ++ both b) ++ c) ≡ channelStopsAt = simp length-append (omega (arith, t .columns, t .gathered, t .counts)) in
       let e1 : listStored columnCountAt a (h ++ drop columnCountAt m) ≡ (h ++ both a) ++ r = list-next h (drop columnCountAt m) a columnCountAt refl (omega arith) in
-      let e2 : listStored lineCountAt b ((h ++ both a) ++ r) ≡ ((h ++ both a) ++ both b) ++ s =
-      list-next (h ++ both a) r b lineCountAt ha (omega arith) in
-      let e3 : listStored gatheredCountAt c (((h ++ both a) ++ both b) ++ s) ≡ (((h ++ both a) ++ both b) ++ both c) ++ drop (suc (length (c .stops))) s =
-      list-next ((h ++ both a) ++ both b) s c gatheredCountAt hb (omega arith) in
-      let z : drop (suc (length (c .stops))) s ≡ [] =
-      drop-of-length-le s {i = suc (length (c .stops))} (omega (arith, t .gathered)) in
-      ap (λ (l : List ℕ). listStored gatheredCountAt c (listStored lineCountAt b (listStored columnCountAt a l))) front-words
-      ∙ ap (λ (l : List ℕ). listStored gatheredCountAt c (listStored lineCountAt b l)) e1
-      ∙ ap (λ (l : List ℕ). listStored gatheredCountAt c l) e2
-      ∙ e3
-      ∙ rw z (regroup h (both a) (both b) (both c))
+      let e2 : listStored gatheredCountAt b ((h ++ both a) ++ r) ≡ ((h ++ both a) ++ both b) ++ s =
+      list-next (h ++ both a) r b gatheredCountAt ha (omega arith) in
+      let e3 : over channelCountsAt c (((h ++ both a) ++ both b) ++ s) ≡ (((h ++ both a) ++ both b) ++ c) ++ u =
+      over-next ((h ++ both a) ++ both b) c s channelCountsAt hb in
+      let e4 : over channelStopsAt d ((((h ++ both a) ++ both b) ++ c) ++ u) ≡ ((((h ++ both a) ++ both b) ++ c) ++ d) ++ drop (length d) u =
+      over-next (((h ++ both a) ++ both b) ++ c) d u channelStopsAt hc in
+      let z : drop (length d) u ≡ [] = drop-of-length-le u {i = length d} (omega (arith, t .channels)) in
+      ap (λ (l : List ℕ). over channelStopsAt d (over channelCountsAt c (listStored gatheredCountAt b (listStored columnCountAt a l)))) front-words
+      ∙ ap (λ (l : List ℕ). over channelStopsAt d (over channelCountsAt c (listStored gatheredCountAt b l))) e1
+      ∙ ap (λ (l : List ℕ). over channelStopsAt d (over channelCountsAt c l)) e2
+      ∙ ap (λ (l : List ℕ). over channelStopsAt d l) e3
+      ∙ e4
+      ∙ rw z (regroup h (both a) (both b) c d)

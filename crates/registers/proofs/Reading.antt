@@ -14,7 +14,7 @@ use Rattle.printer.specs.declared.settings.Width.{Width}
 use Rattle.printer.specs.declared.state.Place.{Place}
 use Rattle.printer.specs.declared.state.Printer.{Printer}
 use Rattle.registers.specs.declared.pending.Pending.{Pending}
-use Rattle.registers.specs.Register.{autoFeedAt, draftAt, upperPrintsAt, styleAt, advanceAt, columnWidthAt, linesSetAt}
+use Rattle.registers.specs.Register.{autoFeedAt, draftAt, upperPrintsAt, styleAt, advanceAt, columnWidthAt, chosenAt}
 use Rattle.registers.specs.Layout.{laid}
 use Rattle.registers.specs.Groups.{isSet, placeIn, setupIn, marginsIn, paperIn, settingsIn}
 use Rattle.registers.specs.Held.{Held}
@@ -64,6 +64,6 @@ module _ {p : Printer} {v : Pending} {m : List ℕ} (h : Held p v m) where
   unfolding laid
   upper-held = rw (h .same) (set-flag _)
 
-  pub lineset-held : isSet (getD m linesSetAt 0) ≡ p .stops .lineset
+  pub chosen-held : getD m chosenAt 0 ≡ p .stops .channels .chosen
   unfolding laid
-  lineset-held = rw (h .same) (set-flag _)
+  chosen-held = rw (h .same)

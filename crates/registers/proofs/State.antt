@@ -12,6 +12,8 @@ use Rattle.printer.specs.Tools.{pick, Holds}
 use Rattle.printer.specs.Accepted.{Accepted, Typed, StopsTyped}
 use Rattle.printer.specs.Bounds.{accepted, waitingBounds}
 use Rattle.printer.specs.Escapes.{countries}
+use Rattle.printer.specs.declared.commands.Listing.{Listing}
+use Rattle.printer.specs.declared.commands.Target.{Target}
 use Rattle.printer.specs.declared.commands.Waiting.{Waiting}
 use Rattle.printer.specs.declared.settings.Settings.{Settings}
 use Rattle.printer.specs.declared.state.Place.{Place}
@@ -21,13 +23,13 @@ use Rattle.printer.proofs.Accepting.{accepted-fact}
 use Rattle.printer.proofs.Choices.{either-elim}
 use Rattle.printer.proofs.Modes.{bytes-within}
 use Rattle.registers.specs.declared.pending.Pending.{Pending}
-use Rattle.registers.specs.Register.{columnStopsAt, lineStopsAt, gatheredStopsAt, registerCount}
+use Rattle.registers.specs.Register.{columnStopsAt, gatheredStopsAt, channelCountsAt, channelStopsAt, registerCount}
 use Rattle.registers.specs.Layout.{Derived, laid, words, derivedOf}
 use Rattle.registers.specs.Groups.{placeIn, settingsIn, stopsIn}
 use Rattle.registers.specs.Held.{Small, Held}
 use Rattle.registers.specs.Stores.{pended}
 use Rattle.registers.specs.State.{pendingOf, waitingOf, pendingIn, registersOf, printerIn, sameList, acceptedIn, imageTyped, Plain}
-use Rattle.registers.proofs.Laws.{set-flag, settings-back}
+use Rattle.registers.proofs.Laws.{settings-back}
 use Rattle.registers.proofs.Copying.{part-long}
 use Rattle.registers.proofs.Waiting.{waiting-back, pending-narrow, waiting-typed}
 
@@ -57,19 +59,20 @@ module _ (v : Pending) (d : Derived) (p : Printer) (t : StopsTyped (p .stops)) w
   unfolding laid stopsIn
   stops-back =
       let a = p .stops .columns .stops in
-      let b = p .stops .lines in
-      let c = p .stops .gathered in
-      let z : List ℕ = c .count ∷ (c .stops ++ []) in
+      let b = p .stops .gathered in
+      let c = p .stops .channels .counts in
+      let e = p .stops .channels .stops in
+      let z : List ℕ = c ++ (e ++ []) in
       let y : List ℕ = b .count ∷ (b .stops ++ z) in
       let columns : take 32 (a ++ y) ≡ a = take-at a y 32 (t .columns) in
-      let line-count : getD (a ++ y) 32 0 ≡ b .count = getD-past a y 32 0 (t .columns) in
-      let lines : take 32 (drop 33 (a ++ y)) ≡ b .stops =
-      rw (drop-past a y 32 1 (t .columns)) (take-at (b .stops) z 32 (t .lines)) in
-      let gathered-count : getD (a ++ y) 65 0 ≡ c .count =
-      getD-past a y 32 33 (t .columns) ∙ getD-past (b .stops) z 32 0 (t .lines) in
-      let gathered : take 32 (drop 66 (a ++ y)) ≡ c .stops =
-      rw (drop-past a y 32 34 (t .columns), drop-past (b .stops) z 32 1 (t .lines)) (take-at (c .stops) [] 32 (t .gathered)) in
-      simp (set-flag, columns, line-count, lines, gathered-count, gathered)
+      let gathered-count : getD (a ++ y) 32 0 ≡ b .count = getD-past a y 32 0 (t .columns) in
+      let gathered : take 32 (drop 33 (a ++ y)) ≡ b .stops =
+      rw (drop-past a y 32 1 (t .columns)) (take-at (b .stops) z 32 (t .gathered)) in
+      let counts : take 8 (drop 65 (a ++ y)) ≡ c =
+      rw (drop-past a y 32 33 (t .columns), drop-past (b .stops) z 32 0 (t .gathered)) (take-at c (e ++ []) 8 (t .counts)) in
+      let places : take 128 (drop 73 (a ++ y)) ≡ e =
+      rw (drop-past a y 32 41 (t .columns), drop-past (b .stops) z 32 8 (t .gathered), drop-past c (e ++ []) 8 0 (t .counts)) (take-at e [] 128 (t .channels)) in
+      simp (columns, gathered-count, gathered, counts, places)
 
 -- a state is its parts
 made : {s t : Settings} {x y : Place} {a b : Stops} {v w : Waiting} → s ≡ t → x ≡ y → a ≡ b → v ≡ w
@@ -107,7 +110,7 @@ registers-tell h k e = sym (registers-read h) ∙ ap printerIn e ∙ registers-r
 -- how many there are
 pub words-long : (v : Pending) (d : Derived) (p : Printer) → StopsTyped (p .stops) → length (laid v d p) ≡ registerCount
 unfolding laid
-words-long v d p t = simp length-append (omega (arith, t .columns, t .lines, t .gathered))
+words-long v d p t = simp length-append (omega (arith, t .columns, t .gathered, t .counts, t .channels))
 
 -- Bounds say more than types of some numbers
 
@@ -123,7 +126,9 @@ image-few : (p : Printer) (w : Waiting) → Holds (waitingBounds (p .settings) (
 image-few p Waiting.Nothing h = tt
 image-few p Waiting.SecondByte h = tt
 image-few p (Waiting.Arguments w) h = tt
-image-few p (Waiting.StopList k b) h = tt
+image-few p (Waiting.StopList (Listing.Sets Target.Columns) b) h = tt
+image-few p (Waiting.StopList (Listing.Sets (Target.Channel m)) b) h = omega (arith, h .1 .0)
+image-few p (Waiting.StopList Listing.Dropped b) h = tt
 image-few p (Waiting.ImageData m k n) h = (omega (arith, h .1 .1 .1 .0, bytes-within m .1), h .1 .0)
 
 module _ {p : Printer} (t : Typed p) (a : Accepted p) where
@@ -163,7 +168,8 @@ module _ (m : List ℕ) (long : length m ≡ registerCount) where
         stops =
             record {
               columns = part-long columnStopsAt 32 m (omega arith);
-              lines = part-long lineStopsAt 32 m (omega arith);
+              channels = part-long channelStopsAt 128 m (omega arith);
+              counts = part-long channelCountsAt 8 m (omega arith);
               gathered = part-long gatheredStopsAt 32 m (omega arith);
             };
         waiting = waiting-typed m;

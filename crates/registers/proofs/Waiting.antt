@@ -18,7 +18,9 @@ use Rattle.printer.specs.declared.commands.Begun.{Begun}
 use Rattle.printer.specs.declared.commands.Frame.{Frame}
 use Rattle.printer.specs.declared.commands.Second.{Second}
 use Rattle.printer.specs.declared.commands.Selected.{Selected}
+use Rattle.printer.specs.declared.commands.Listing.{Listing}
 use Rattle.printer.specs.declared.commands.Tabs.{Tabs}
+use Rattle.printer.specs.declared.commands.Target.{Target}
 use Rattle.printer.specs.declared.commands.Waiting.{Waiting}
 use Rattle.printer.proofs.commands.Begun.{the-type}
 use Rattle.printer.proofs.Choices.{pick-elim, bytes-append}
@@ -26,7 +28,7 @@ use Rattle.printer.proofs.Frames.{Framed, begins as framed-begins, single, open
 use Rattle.printer.proofs.Listed.{every-listed}
 use Rattle.printer.proofs.Modes.{number-byte}
 use Rattle.registers.specs.declared.pending.Pending.{Pending}
-use Rattle.registers.specs.State.{pending, pendingBytes, pendingOf, begins, waitsIn, argued, resumed, imagedBy, kinds, waitingOf, pendingIn, imageTyped}
+use Rattle.registers.specs.State.{pending, pendingBytes, pendingOf, begins, waitsIn, argued, resumed, listed, imagedBy, kinds, waitingOf, pendingIn, imageTyped}
 use Rattle.registers.proofs.Laws.{byte-back}
 
 -- what a second byte begins is found in the rest of the table: the escapes before it begin nothing
@@ -54,7 +56,7 @@ begins-found b = left-out plainEscapes (argumentEscapes ++ otherEscapes) b refl
 
 -- nothing follows the argument of these places, by their numbers among all
 abbrev lasts : List ℕ
-lasts = 0 ∷ 2 ∷ 4 ∷ 6 ∷ 9 ∷ []
+lasts = 0 ∷ 2 ∷ 4 ∷ 6 ∷ 9 ∷ 10 ∷ []
 
 pub whole : (w : Begun) (a : ℕ) → OneOf lasts (tagOf the-type w) → Waiting.Nothing ≡ argued w a
 whole (Begun.One c) a k = refl
@@ -67,6 +69,7 @@ whole (Begun.SecondOf c b) a k = refl
 whole Begun.SelectMode a k = absurd (miss lasts _ tt k)
 whole (Begun.ColumnsLow m) a k = absurd (miss lasts _ tt k)
 whole (Begun.ColumnsHigh m b) a k = refl
+whole Begun.ListChannel a k = refl
 
 -- reading its numbers gives it back
 
@@ -82,13 +85,16 @@ begun-back (Begun.SecondOf c a) = rw (every-listed .two c)
 begun-back Begun.SelectMode = rw (every-listed .select)
 begun-back (Begun.ColumnsLow m) = rw (every-listed .select, every-listed .imageMode m)
 begun-back (Begun.ColumnsHigh m a) = rw (every-listed .select, every-listed .imageMode m)
+begun-back Begun.ListChannel = rw (every-listed .listChannel)
 
 pub waiting-back : (w : Waiting) → waitingOf (pendingOf w) ≡ w
 unfolding lookup kinds frame
 waiting-back Waiting.Nothing = refl
 waiting-back Waiting.SecondByte = refl
 waiting-back (Waiting.Arguments w) = begun-back w
-waiting-back (Waiting.StopList t b) = rw (every-listed .list t)
+waiting-back (Waiting.StopList (Listing.Sets Target.Columns) b) = rw (every-listed .list Tabs.Horizontal)
+waiting-back (Waiting.StopList (Listing.Sets (Target.Channel m)) b) = rw (every-listed .list Tabs.Vertical)
+waiting-back (Waiting.StopList Listing.Dropped b) = refl
 waiting-back (Waiting.ImageData m k n) = rw (every-listed .imageMode m)
 
 -- its numbers are such as their types hold
@@ -106,8 +112,9 @@ pub pending-narrow : (w : Waiting) → waitingTyped w → imageTyped w → narro
 pending-narrow Waiting.Nothing h k = refl
 pending-narrow Waiting.SecondByte h k = refl
 pending-narrow (Waiting.Arguments w) h k = bytes-narrow (begunBy w) h
-pending-narrow (Waiting.StopList Tabs.Horizontal b) h k = rw (byte-back h)
-pending-narrow (Waiting.StopList Tabs.Vertical b) h k = rw (byte-back h)
+pending-narrow (Waiting.StopList (Listing.Sets Target.Columns) b) h k = rw (byte-back h)
+pending-narrow (Waiting.StopList (Listing.Sets (Target.Channel m)) b) h k = rw (byte-back h, byte-back k)
+pending-narrow (Waiting.StopList Listing.Dropped b) h k = rw (byte-back h)
 pending-narrow (Waiting.ImageData m i n) h k =
     let e : n % 65536 ≡ n = omega (arith, k .1) in
     rw (e, byte-back (number-byte m), byte-back (k .0))
@@ -138,8 +145,16 @@ typed-resumed : (w : Waiting) (b : ℕ) → b ≤ 255 → waitingTyped w → wai
 typed-resumed Waiting.Nothing b h t = tt
 typed-resumed Waiting.SecondByte b h t = tt
 typed-resumed (Waiting.Arguments w) b h t = typed-argued w b h t
-typed-resumed (Waiting.StopList k before) b h t = h
+typed-resumed (Waiting.StopList k before) b h t = tt
 typed-resumed (Waiting.ImageData m k n) b h t = tt
+
+typed-listed : (w : Waiting) (c b : ℕ) → b ≤ 255 → waitingTyped (listed w c b)
+typed-listed Waiting.Nothing c b h = tt
+typed-listed Waiting.SecondByte c b h = tt
+typed-listed (Waiting.Arguments w) c b h = tt
+typed-listed (Waiting.StopList (Listing.Sets k) before) c b h = h
+typed-listed (Waiting.StopList Listing.Dropped before) c b h = tt
+typed-listed (Waiting.ImageData m k n) c b h = tt
 
 -- what a table tells has what each of its entries has
 told : (l : List (ℕ × Waiting)) (d : Waiting) (b : ℕ) → waitingTyped d → Each (λ (e : ℕ × Waiting). waitingTyped (e .1)) l
@@ -162,4 +177,4 @@ waiting-typed m =
     let selected : waitingTyped (resumed begun (v .mode)) = typed-resumed begun (v .mode) (omega arith) t in
     let again : waitingTyped (resumed (resumed begun (v .mode)) (v .argument)) = typed-resumed (resumed begun (v .mode)) (v .argument) (omega arith) selected in
     told (kinds begun v) Waiting.Nothing (v .kind) tt
-    (tt, (tt, (t, (after, (after, (typed-imaged (selectedOf (v .mode)) (v .part) (v .columns), (again, tt)))))))
+    (tt, (tt, (t, (after, (typed-listed begun (v .mode) (v .argument) (omega arith), (typed-imaged (selectedOf (v .mode)) (v .part) (v .columns), (again, (omega arith, tt))))))))

@@ -18,10 +18,11 @@ use Rattle.printer.specs.declared.settings.Settings.{Settings}
 use Rattle.printer.specs.declared.settings.Setup.{Setup}
 use Rattle.printer.specs.declared.settings.Width.{Width}
 use Rattle.printer.specs.declared.state.Place.{Place}
+use Rattle.printer.specs.declared.stops.Channels.{Channels}
 use Rattle.printer.specs.declared.stops.Stops.{Stops}
 use Rattle.printer.specs.declared.stops.TabStops.{TabStops}
 use Rattle.printer.specs.declared.units.Resolution.{Resolution}
-use Rattle.registers.specs.Register.{acrossAt, downAt, leftAt, rightAt, pageAt, skipAt, lineAt, dotsAcrossAt, autoFeedAt, paperWidthAt, pitchAt, spacingAt, wideAt, wideOnceAt, reducedAt, proportionalAt, boldAt, doubleStrikeAt, italicAt, underlineAt, superscriptAt, subscriptAt, fontAt, countryAt, outlineAt, doubleHeightAt, italicTableAt, downloadAt, draftAt, upperPrintsAt, linesSetAt, columnCountAt, lineCountAt, gatheredCountAt}
+use Rattle.registers.specs.Register.{acrossAt, downAt, leftAt, rightAt, pageAt, skipAt, lineAt, dotsAcrossAt, autoFeedAt, paperWidthAt, pitchAt, spacingAt, wideAt, wideOnceAt, reducedAt, proportionalAt, boldAt, doubleStrikeAt, italicAt, underlineAt, superscriptAt, subscriptAt, fontAt, countryAt, outlineAt, doubleHeightAt, italicTableAt, downloadAt, draftAt, upperPrintsAt, chosenAt, columnCountAt, gatheredCountAt, channelCountsAt, channelStopsAt}
 
 abbrev pub isSet : ℕ → Bool
 isSet n = eqb n 1
@@ -96,5 +97,8 @@ settingsIn m =
 abbrev pub listIn : ℕ → List ℕ → TabStops
 listIn from m = record { stops = take stopRoom (drop (suc from) m); count = getD m from 0 }
 
+abbrev pub channelsIn : List ℕ → Channels
+channelsIn m = record { stops = take 128 (drop channelStopsAt m); counts = take 8 (drop channelCountsAt m); chosen = getD m chosenAt 0 }
+
 unfoldable pub stopsIn : List ℕ → Stops
-stopsIn m = record { columns = listIn columnCountAt m; lines = listIn lineCountAt m; lineset = isSet (getD m linesSetAt 0); gathered = listIn gatheredCountAt m }
+stopsIn m = record { columns = listIn columnCountAt m; channels = channelsIn m; gathered = listIn gatheredCountAt m }

@@ -10,6 +10,7 @@ use Rattle.printer.specs.declared.settings.Pitch.{Pitch}
 use Rattle.printer.specs.declared.settings.Settings.{Settings}
 use Rattle.printer.specs.declared.state.Place.{Place}
 use Rattle.printer.specs.declared.state.Printer.{Printer}
+use Rattle.printer.specs.declared.stops.Channels.{Channels}
 use Rattle.printer.specs.declared.stops.Stops.{Stops}
 use Rattle.printer.specs.declared.stops.TabStops.{TabStops}
 use Rattle.registers.specs.declared.pending.Pending.{Pending}
@@ -61,9 +62,13 @@ derivedWords d l = d .style ∷ d .advance ∷ d .column ∷ l
 abbrev pub listWords : TabStops → List ℕ → List ℕ
 listWords t l = t .count ∷ (t .stops ++ l)
 
--- from linesSetAt on: columns, lines, and what is gathered
+-- from channelCountsAt on: the channels' counts, and their places
+abbrev pub channelWords : Channels → List ℕ → List ℕ
+channelWords c l = c .counts ++ (c .stops ++ l)
+
+-- from chosenAt on: the chosen channel, the columns, what is gathered, and the channels
 abbrev pub stopsWords : Stops → List ℕ → List ℕ
-stopsWords t l = flag (t .lineset) ∷ listWords (t .columns) (listWords (t .lines) (listWords (t .gathered) l))
+stopsWords t l = t .channels .chosen ∷ listWords (t .columns) (listWords (t .gathered) (channelWords (t .channels) l))
 
 -- the state with any numbers for what is waited for, which a call holds as a value and stores at its end, and for what
 -- follows from the settings

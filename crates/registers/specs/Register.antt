@@ -139,29 +139,31 @@ advanceAt = styleAt + 1
 abbrev pub columnWidthAt : ℕ
 columnWidthAt = styleAt + 2
 
--- whether vertical stops were set; then three lists of stops, each a count and its stops
+-- the chosen channel; then two lists of stops, each a count and its stops
 
-abbrev pub linesSetAt : ℕ
-linesSetAt = columnWidthAt + 1
+abbrev pub chosenAt : ℕ
+chosenAt = columnWidthAt + 1
 
 abbrev pub columnCountAt : ℕ
-columnCountAt = linesSetAt + 1
+columnCountAt = chosenAt + 1
 
 abbrev pub columnStopsAt : ℕ
 columnStopsAt = columnCountAt + 1
 
-abbrev pub lineCountAt : ℕ
-lineCountAt = columnStopsAt + stopRoom
-
-abbrev pub lineStopsAt : ℕ
-lineStopsAt = lineCountAt + 1
-
 abbrev pub gatheredCountAt : ℕ
-gatheredCountAt = lineStopsAt + stopRoom
+gatheredCountAt = columnStopsAt + stopRoom
 
 abbrev pub gatheredStopsAt : ℕ
 gatheredStopsAt = gatheredCountAt + 1
 
+-- the channels: a count for each of eight, and sixteen places for each
+
+abbrev pub channelCountsAt : ℕ
+channelCountsAt = gatheredStopsAt + stopRoom
+
+abbrev pub channelStopsAt : ℕ
+channelStopsAt = channelCountsAt + 8
+
 -- how many there are
 abbrev pub registerCount : ℕ
-registerCount = gatheredStopsAt + stopRoom
+registerCount = channelStopsAt + 128

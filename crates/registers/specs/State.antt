@@ -13,8 +13,11 @@ use Rattle.printer.specs.Steps.{nextIn}
 use Rattle.printer.specs.Tools.{lookup}
 use Rattle.printer.specs.declared.commands.Begun.{Begun}
 use Rattle.printer.specs.declared.commands.Frame.{Frame}
+use Rattle.printer.specs.declared.commands.Listing.{Listing}
 use Rattle.printer.specs.declared.commands.Second.{Second}
 use Rattle.printer.specs.declared.commands.Selected.{Selected}
+use Rattle.printer.specs.declared.commands.Tabs.{Tabs}
+use Rattle.printer.specs.declared.commands.Target.{Target}
 use Rattle.printer.specs.declared.commands.Waiting.{Waiting}
 use Rattle.printer.specs.declared.state.Printer.{Printer}
 use Rattle.registers.specs.declared.pending.Pending.{Pending}
@@ -27,7 +30,7 @@ abbrev pub pending : (kind command argument mode part columns : ℕ) → Pending
 pending kind command argument mode part columns =
     record { kind = kind; command = command; argument = argument; mode = mode; part = part; columns = columns }
 
--- the kinds, 0 to 6; what a kind does not use is 0
+-- the kinds, 0 to 7; what a kind does not use is 0
 
 abbrev pub escaped : (kind command argument : ℕ) → Pending
 escaped kind command argument = pending kind command argument 0 0 0
@@ -39,11 +42,17 @@ pendingBytes (code ∷ []) = escaped 2 code 0
 pendingBytes (code ∷ argument ∷ []) = escaped 3 code argument
 pendingBytes (code ∷ mode ∷ argument ∷ l) = pending 6 code argument mode 0 0
 
+-- a stop list: ESC D's, or ESC B's, with the channel that it sets where an image has its mode; or one that is dropped
+abbrev pub pendingList : Listing → ℕ → Pending
+pendingList (Listing.Sets Target.Columns) b = escaped 4 (secondCode (Second.List Tabs.Horizontal)) b
+pendingList (Listing.Sets (Target.Channel m)) b = pending 4 (secondCode (Second.List Tabs.Vertical)) b m 0 0
+pendingList Listing.Dropped b = escaped 7 0 b
+
 abbrev pub pendingOf : Waiting → Pending
 pendingOf Waiting.Nothing = escaped 0 0 0
 pendingOf Waiting.SecondByte = pendingBytes []
 pendingOf (Waiting.Arguments w) = pendingBytes (begunBy w)
-pendingOf (Waiting.StopList t b) = escaped 4 (secondCode (Second.List t)) b
+pendingOf (Waiting.StopList k b) = pendingList k b
 pendingOf (Waiting.ImageData m k n) = pending 5 0 0 (imageModeNumber m) k n
 
 -- the registers of a printer: the one law between them
@@ -63,13 +72,29 @@ waitsIn (Frame.Whole c w) = Waiting.Nothing
 abbrev pub argued : Begun → ℕ → Waiting
 argued w a = waitsIn (continued w a)
 
--- what was begun, after a byte of it: an argument, or a byte of a stop list
+-- what was begun, after a byte of it
 abbrev pub resumed : Waiting → ℕ → Waiting
 resumed Waiting.Nothing b = Waiting.Nothing
 resumed Waiting.SecondByte b = Waiting.Nothing
 resumed (Waiting.Arguments w) b = argued w b
-resumed (Waiting.StopList t before) b = Waiting.StopList t b
+resumed (Waiting.StopList k before) b = Waiting.Nothing
 resumed (Waiting.ImageData m k n) b = Waiting.Nothing
+
+-- a list that was begun, for a channel, after a byte of it
+abbrev pub onChannel : Target → (channel : ℕ) → Target
+onChannel Target.Columns c = Target.Columns
+onChannel (Target.Channel m) c = Target.Channel c
+
+abbrev pub listedAs : Listing → (channel b : ℕ) → Waiting
+listedAs (Listing.Sets k) c b = Waiting.StopList (Listing.Sets (onChannel k c)) b
+listedAs Listing.Dropped c b = Waiting.Nothing
+
+abbrev pub listed : Waiting → (channel b : ℕ) → Waiting
+listed Waiting.Nothing c b = Waiting.Nothing
+listed Waiting.SecondByte c b = Waiting.Nothing
+listed (Waiting.Arguments w) c b = Waiting.Nothing
+listed (Waiting.StopList k before) c b = listedAs k c b
+listed (Waiting.ImageData m k n) c b = Waiting.Nothing
 
 -- image data by its mode
 abbrev pub imagedBy : Selected → (k n : ℕ) → Waiting
@@ -87,9 +112,10 @@ kinds begun v =
     (1, Waiting.SecondByte) ∷
     (2, begun) ∷
     (3, resumed begun (v .argument)) ∷
-    (4, resumed begun (v .argument)) ∷
+    (4, listed begun (v .mode) (v .argument)) ∷
     (5, imaged (v .mode) (v .part) (v .columns)) ∷
     (6, resumed (resumed begun (v .mode)) (v .argument)) ∷
+    (7, Waiting.StopList Listing.Dropped (v .argument)) ∷
     []
 
 abbrev pub waitingOf : Pending → Waiting
@@ -118,11 +144,16 @@ acceptedIn m = sameList m (registersOf (printerIn m)) && accepted (printerIn m)
 
 -- What every printer by value has: bytes are below 256, image columns below 65,536, and lists of stops have their room.
 
+abbrev pub listTyped : Listing → Type 0
+listTyped (Listing.Sets Target.Columns) = Unit
+listTyped (Listing.Sets (Target.Channel m)) = m ≤ 255
+listTyped Listing.Dropped = Unit
+
 abbrev pub imageTyped : Waiting → Type 0
 imageTyped Waiting.Nothing = Unit
 imageTyped Waiting.SecondByte = Unit
 imageTyped (Waiting.Arguments w) = Unit
-imageTyped (Waiting.StopList t b) = Unit
+imageTyped (Waiting.StopList k b) = listTyped k
 imageTyped (Waiting.ImageData m k n) = (k ≤ 255) × (n ≤ 65535)
 
 pub record Plain (p : Printer) : Type 0 where

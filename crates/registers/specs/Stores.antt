@@ -5,7 +5,9 @@ use mathlib.Core.List.{List, [], _∷_, _++_}
 use lib.ListN.{length, take, drop, set, getD}
 use Rattle.printer.specs.Units.{perInchAcross, perInchDown}
 use Rattle.printer.specs.Records.{styleOf}
-use Rattle.printer.specs.Settings.{acrossOf, downOf, advanceOf, columnOf}
+use Rattle.printer.specs.Settings.{acrossOf, downOf, advanceOf, columnOf, at}
+use Rattle.printer.specs.PowerOn.{powerOnSettings, neverSet, startStops}
+use Rattle.printer.specs.declared.commands.Waiting.{Waiting}
 use Rattle.printer.specs.declared.settings.Emphasis.{Emphasis}
 use Rattle.printer.specs.declared.settings.Face.{Face}
 use Rattle.printer.specs.declared.settings.Margins.{Margins}
@@ -15,11 +17,13 @@ use Rattle.printer.specs.declared.settings.Settings.{Settings}
 use Rattle.printer.specs.declared.settings.Setup.{Setup}
 use Rattle.printer.specs.declared.settings.Width.{Width}
 use Rattle.printer.specs.declared.state.Place.{Place}
+use Rattle.printer.specs.declared.state.Printer.{Printer}
+use Rattle.printer.specs.declared.stops.Channels.{Channels}
 use Rattle.printer.specs.declared.stops.Stops.{Stops}
 use Rattle.printer.specs.declared.stops.TabStops.{TabStops}
 use Rattle.printer.specs.declared.units.Units.{Units}
 use Rattle.registers.specs.declared.pending.Pending.{Pending}
-use Rattle.registers.specs.Register.{kindAt, commandAt, argumentAt, imageModeAt, imageByteAt, imageColumnsAt, acrossAt, downAt, leftAt, rightAt, pageAt, skipAt, lineAt, dotsAcrossAt, dotsDownAt, autoFeedAt, paperWidthAt, pitchAt, spacingAt, wideAt, wideOnceAt, reducedAt, proportionalAt, boldAt, doubleStrikeAt, italicAt, underlineAt, superscriptAt, subscriptAt, fontAt, countryAt, outlineAt, doubleHeightAt, italicTableAt, downloadAt, draftAt, upperPrintsAt, styleAt, advanceAt, columnWidthAt, linesSetAt, columnCountAt, columnStopsAt, lineCountAt, gatheredCountAt}
+use Rattle.registers.specs.Register.{kindAt, commandAt, argumentAt, imageModeAt, imageByteAt, imageColumnsAt, acrossAt, downAt, leftAt, rightAt, pageAt, skipAt, lineAt, dotsAcrossAt, dotsDownAt, autoFeedAt, paperWidthAt, pitchAt, spacingAt, wideAt, wideOnceAt, reducedAt, proportionalAt, boldAt, doubleStrikeAt, italicAt, underlineAt, superscriptAt, subscriptAt, fontAt, countryAt, outlineAt, doubleHeightAt, italicTableAt, downloadAt, draftAt, upperPrintsAt, styleAt, advanceAt, columnWidthAt, chosenAt, columnCountAt, columnStopsAt, gatheredCountAt, channelCountsAt, channelStopsAt}
 use Rattle.registers.specs.Layout.{flag, pitchNumber}
 
 -- numbers stored at their places, in turn
@@ -78,9 +82,13 @@ over from l m = take from m ++ (l ++ drop (from + length l) m)
 abbrev pub listStored : ℕ → TabStops → List ℕ → List ℕ
 listStored from t m = over (from + 1) (t .stops) (set m from (t .count))
 
+-- the channels' counts, and their places
+abbrev pub channelsStored : Channels → List ℕ → List ℕ
+channelsStored c m = over channelStopsAt (c .stops) (over channelCountsAt (c .counts) m)
+
 unfoldable pub stopsStored : Stops → List ℕ → List ℕ
 stopsStored t m =
-    listStored gatheredCountAt (t .gathered) (listStored lineCountAt (t .lines) (listStored columnCountAt (t .columns) (set m linesSetAt (flag (t .lineset)))))
+    channelsStored (t .channels) (listStored gatheredCountAt (t .gathered) (listStored columnCountAt (t .columns) (set m chosenAt (t .channels .chosen))))
 
 -- what registers say is waited for, as it stands
 abbrev pub staleIn : List ℕ → Pending
@@ -102,3 +110,8 @@ powerOnCells width = (rightAt, width .0) ∷ (pageAt, 39600) ∷ (lineAt, 600) �
 abbrev pub columnCells : List (ℕ × ℕ)
 columnCells =
     (columnCountAt, 9) ∷ (columnStopsAt, 8) ∷ (columnStopsAt + 1, 16) ∷ (columnStopsAt + 2, 24) ∷ (columnStopsAt + 3, 32) ∷ (columnStopsAt + 4, 40) ∷ (columnStopsAt + 5, 48) ∷ (columnStopsAt + 6, 56) ∷ (columnStopsAt + 7, 64) ∷ (columnStopsAt + 8, 72) ∷ []
+
+-- the state at power-on, whatever the places of the channels, which were never set, hold
+abbrev pub restarted : Setup → (places : List ℕ) → Printer
+restarted t l =
+    record { settings = powerOnSettings t; place = at 0 0; stops = startStops (neverSet l); waiting = Waiting.Nothing }

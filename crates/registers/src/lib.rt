@@ -7,13 +7,14 @@ pub mod power_on;
 pub mod stores;
 pub mod unpack;
 
+use printer::stops::Channels;
 use printer::stops::TabStops;
 
 // How many registers there are.
-pub const COUNT: usize = 140;
+pub const COUNT: usize = 243;
 
-// What is waited for: its kind, the escape's second byte, the argument or list byte before; an image's mode, the byte of a column that comes,
-// and the columns left.
+// What is waited for: its kind, the escape's second byte, the argument or list byte before; an image's mode, or the channel that a list sets; the
+// byte of a column that comes, and the columns left.
 pub const KIND: usize = 0;
 
 pub const COMMAND: usize = KIND + 1;
@@ -102,17 +103,18 @@ pub const ADVANCE: usize = STYLE + 1;
 
 pub const COLUMN_WIDTH: usize = STYLE + 2;
 
-// Whether vertical stops were set; then three lists of stops, each a count and its stops.
-pub const LINES_SET: usize = COLUMN_WIDTH + 1;
+// The chosen channel; then two lists of stops, each a count and its stops.
+pub const CHOSEN: usize = COLUMN_WIDTH + 1;
 
-pub const COLUMN_COUNT: usize = LINES_SET + 1;
+pub const COLUMN_COUNT: usize = CHOSEN + 1;
 
 pub const COLUMN_STOPS: usize = COLUMN_COUNT + 1;
 
-pub const LINE_COUNT: usize = COLUMN_STOPS + TabStops::ROOM;
-
-pub const LINE_STOPS: usize = LINE_COUNT + 1;
-
-pub const GATHERED_COUNT: usize = LINE_STOPS + TabStops::ROOM;
+pub const GATHERED_COUNT: usize = COLUMN_STOPS + TabStops::ROOM;
 
 pub const GATHERED_STOPS: usize = GATHERED_COUNT + 1;
+
+// The channels: a count for each, 0 if it was never set, else one more than its stops; and sixteen places for each.
+pub const CHANNEL_COUNTS: usize = GATHERED_STOPS + TabStops::ROOM;
+
+pub const CHANNEL_STOPS: usize = CHANNEL_COUNTS + Channels::NUMBER;

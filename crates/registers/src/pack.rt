@@ -1,33 +1,34 @@
 // A state by value stored in its registers.
+use crate::CHANNEL_COUNTS;
+use crate::CHANNEL_STOPS;
+use crate::CHOSEN;
 use crate::COLUMN_COUNT;
 use crate::COUNT;
 use crate::GATHERED_COUNT;
-use crate::LINE_COUNT;
-use crate::LINES_SET;
-use crate::groups::flag;
 use crate::pending::pending_of;
 use crate::pending::store_pending;
 use crate::stores::store_place;
 use crate::stores::store_settings;
 use crate::stores::whole;
 use printer::state::Printer;
+use printer::stops::Channels;
 use printer::stops::Stops;
 use printer::stops::TabStops;
 ghost use mathlib.Core.Path.{_≡_};
 ghost use Prim.Native.Nat.{_+_, _≤_};
 ghost use Rattle.registers.specs.Register.{registerCount};
-ghost use Rattle.registers.specs.Stores.{over, listStored, stopsStored};
+ghost use Rattle.registers.specs.Stores.{over, listStored, channelsStored, stopsStored};
 ghost use Rattle.registers.specs.State.{registersOf};
 
-// Stops from a place on.
-fn lay(m: &mut [u32; COUNT], from: usize, stops: [u32; TabStops::ROOM])
-    requires { ⌜ from + 32 ≤ registerCount ⌝ }
-    ensures { λ _. ⌜ now (m .exit) ≡ over from stops (now (m .entry)) ⌝ }
+// Numbers from a place on.
+fn lay(m: &mut [u32; COUNT], from: usize, numbers: &[u32])
+    requires { do ⌜ from + (← ⟦numbers.len()⟧) ≤ registerCount ⌝ }
+    ensures { λ _. ⌜ now (m .exit) ≡ over from (now (numbers .entry)) (now (m .entry)) ⌝ }
 {
     let n = whole(&*m);
     let mut i: usize = 0;
-    while i < TabStops::ROOM {
-        m[from + i] = stops[i];
+    while i < numbers.len() {
+        m[from + i] = numbers[i];
         i += 1;
     }
 }
@@ -39,19 +40,28 @@ fn store_list(m: &mut [u32; COUNT], from: usize, list: TabStops)
 {
     let stops = list.stops;
     m[from] = list.count;
-    lay(m, from + 1, stops);
+    lay(m, from + 1, &stops[..]);
+}
+
+fn store_channels(m: &mut [u32; COUNT], c: Channels)
+    ensures { λ _. ⌜ now (m .exit) ≡ channelsStored c (now (m .entry)) ⌝ }
+{
+    let counts = c.counts;
+    let stops = c.stops;
+    lay(&mut *m, CHANNEL_COUNTS, &counts[..]);
+    lay(m, CHANNEL_STOPS, &stops[..]);
 }
 
 fn store_stops(m: &mut [u32; COUNT], t: Stops)
     ensures { λ _. ⌜ now (m .exit) ≡ stopsStored t (now (m .entry)) ⌝ }
 {
     let columns = t.columns;
-    let lines = t.lines;
+    let channels = t.channels;
     let gathered = t.gathered;
-    m[LINES_SET] = flag(t.lineset);
+    m[CHOSEN] = channels.chosen;
     store_list(&mut *m, COLUMN_COUNT, columns);
-    store_list(&mut *m, LINE_COUNT, lines);
-    store_list(m, GATHERED_COUNT, gathered);
+    store_list(&mut *m, GATHERED_COUNT, gathered);
+    store_channels(m, channels);
 }
 
 // Stores it over whatever stood there.

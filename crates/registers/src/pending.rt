@@ -8,9 +8,13 @@ use crate::IMAGE_MODE;
 use crate::KIND;
 use framing::codes;
 use framing::codes::BegunBytes;
+use framing::named_list;
 use printer::commands::Begun;
+use printer::commands::Listing;
 use printer::commands::Second;
 use printer::commands::Selected;
+use printer::commands::Tabs;
+use printer::commands::Target;
 use printer::commands::Waiting;
 ghost use mathlib.Core.Path.{_≡_};
 ghost use lib.ListN.{drop};
@@ -18,11 +22,13 @@ ghost use Rattle.printer.specs.Codes.{begunBy};
 ghost use Rattle.printer.specs.Framing.{advancedFrame};
 ghost use Rattle.printer.specs.Tools.{lookup};
 ghost use Rattle.printer.specs.declared.commands.Begun.{Begun};
+ghost use Rattle.printer.specs.declared.commands.Listing.{Listing};
 ghost use Rattle.printer.specs.declared.commands.Waiting.{Waiting};
 ghost use Rattle.registers.specs.Stores.{pended};
-ghost use Rattle.registers.specs.State.{pending, escaped, pendingBytes, pendingOf, begins, waitsIn, argued, resumed, imaged, kinds, waitingOf, pendingIn};
+ghost use Rattle.registers.specs.State.{pending, escaped, pendingBytes, pendingList, pendingOf, begins, waitsIn, argued, resumed, onChannel, listedAs, listed, imaged, kinds, waitingOf, pendingIn};
 
-// A kind, the escape's second byte, the argument or list byte before; an image's mode, the byte of a column that comes, and the columns left.
+// A kind, the escape's second byte, the argument or list byte before; an image's mode or a list's channel, the byte of a column that comes, and the
+// columns left.
 pub struct Pending {
     pub kind: u32,
     pub command: u8,
@@ -60,6 +66,20 @@ fn selected(command: u8, mode: u8, argument: u8) -> Pending
     }
 }
 
+// Of a list that sets a channel.
+fn channel_list(command: u8, channel: u8, argument: u8) -> Pending
+    ensures { λ r. ⌜ r ≡ pending 4 command argument channel 0 0 ⌝ }
+{
+    Pending {
+        kind: 4,
+        command,
+        argument,
+        mode: channel,
+        part: 0,
+        columns: 0,
+    }
+}
+
 // Of image data.
 fn image(mode: u8, part: u8, columns: u16) -> Pending
     ensures { λ r. ⌜ r ≡ pending 5 0 0 mode part columns ⌝ }
@@ -85,6 +105,25 @@ fn pending_begun(w: Begun) -> Pending
     }
 }
 
+// Of a list that sets stops.
+fn pending_target(t: Target, b: u8) -> Pending
+    ensures { λ r. ⌜ r ≡ pendingList (Listing.Sets t) b ⌝ }
+{
+    match t {
+        Target::Columns => escaped(4, codes::list_code(Tabs::Horizontal), b),
+        Target::Channel(c) => channel_list(codes::list_code(Tabs::Vertical), c, b),
+    }
+}
+
+fn pending_list(k: Listing, b: u8) -> Pending
+    ensures { λ r. ⌜ r ≡ pendingList k b ⌝ }
+{
+    match k {
+        Listing::Sets(t) => pending_target(t, b),
+        Listing::Dropped => escaped(7, 0, b),
+    }
+}
+
 // The kind's number, with the numbers that the kind uses.
 pub fn pending_of(w: Waiting) -> Pending
     ensures { λ r. ⌜ r ≡ pendingOf w ⌝ }
@@ -93,7 +132,7 @@ pub fn pending_of(w: Waiting) -> Pending
         Waiting::Nothing => escaped(0, 0, 0),
         Waiting::SecondByte => escaped(1, 0, 0),
         Waiting::Arguments(b) => pending_begun(b),
-        Waiting::StopList(t, b) => escaped(4, codes::list_code(t), b),
+        Waiting::StopList(k, b) => pending_list(k, b),
         Waiting::ImageData(m, k, n) => image(codes::image_mode_number(m), k, n),
     }
 }
@@ -109,7 +148,7 @@ fn begins(code: u8) -> Waiting
         Second::Mode(_) => Waiting::Nothing,
         Second::Switch(_) => Waiting::Nothing,
         Second::Begins(w) => Waiting::Arguments(w),
-        Second::List(t) => Waiting::StopList(t, 0),
+        Second::List(t) => Waiting::StopList(named_list(t), 0),
         Second::Unlisted => Waiting::Nothing,
     }
 }
@@ -153,7 +192,7 @@ fn argued(w: Begun, a: u8) -> Waiting
     }
 }
 
-// After a byte of it: an argument, or a byte of a stop list.
+// After a byte of it, which is an argument.
 fn resumed(begun: Waiting, b: u8) -> Waiting
     ensures { λ r. ⌜ r ≡ resumed begun b ⌝ }
 {
@@ -161,7 +200,38 @@ fn resumed(begun: Waiting, b: u8) -> Waiting
         Waiting::Nothing => Waiting::Nothing,
         Waiting::SecondByte => Waiting::Nothing,
         Waiting::Arguments(w) => argued(w, b),
-        Waiting::StopList(t, _) => Waiting::StopList(t, b),
+        Waiting::StopList(_, _) => Waiting::Nothing,
+        Waiting::ImageData(_, _, _) => Waiting::Nothing,
+    }
+}
+
+// A list for a channel, after a byte of it.
+fn on_channel(t: Target, channel: u8) -> Target
+    ensures { λ r. ⌜ r ≡ onChannel t channel ⌝ }
+{
+    match t {
+        Target::Columns => Target::Columns,
+        Target::Channel(_) => Target::Channel(channel),
+    }
+}
+
+fn listed_as(k: Listing, channel: u8, b: u8) -> Waiting
+    ensures { λ r. ⌜ r ≡ listedAs k channel b ⌝ }
+{
+    match k {
+        Listing::Sets(t) => Waiting::StopList(Listing::Sets(on_channel(t, channel)), b),
+        Listing::Dropped => Waiting::Nothing,
+    }
+}
+
+fn listed(begun: Waiting, channel: u8, b: u8) -> Waiting
+    ensures { λ r. ⌜ r ≡ listed begun channel b ⌝ }
+{
+    match begun {
+        Waiting::Nothing => Waiting::Nothing,
+        Waiting::SecondByte => Waiting::Nothing,
+        Waiting::Arguments(_) => Waiting::Nothing,
+        Waiting::StopList(k, _) => listed_as(k, channel, b),
         Waiting::ImageData(_, _, _) => Waiting::Nothing,
     }
 }
@@ -185,9 +255,10 @@ fn waiting_begun(v: Pending) -> Waiting
     match kind {
         2 => begun,
         3 => resumed(begun, v.argument),
-        4 => resumed(begun, v.argument),
+        4 => listed(begun, v.mode, v.argument),
         5 => imaged(v.mode, v.part, v.columns),
         6 => resumed(resumed(begun, v.mode), v.argument),
+        7 => Waiting::StopList(Listing::Dropped, v.argument),
         _ => Waiting::Nothing,
     }
 }

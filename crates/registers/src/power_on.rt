@@ -1,5 +1,6 @@
 // The state at power-on.
 use crate::ACROSS;
+use crate::CHANNEL_STOPS;
 use crate::COLUMN_COUNT;
 use crate::COLUMN_STOPS;
 use crate::COUNT;
@@ -15,24 +16,30 @@ use printer::settings::Setup;
 use printer::state::Printer;
 use printer::units::Units;
 ghost use mathlib.Core.Path.{_≡_};
-ghost use mathlib.Core.List.{_++_};
-ghost use Prim.Native.Nat.{_-_};
-ghost use lib.ListN.{take, replicate};
-ghost use Rattle.printer.specs.PowerOn.{powerOn};
-ghost use Rattle.registers.specs.Register.{acrossAt, registerCount};
+ghost use Prim.Native.Nat.{_-_, _≤_};
+ghost use lib.ListN.{drop, replicate};
+ghost use Rattle.registers.specs.Register.{channelStopsAt, registerCount};
 ghost use Rattle.registers.specs.Layout.{words};
-ghost use Rattle.registers.specs.Stores.{stores, staleIn, powerOnCells, columnCells};
+ghost use Rattle.registers.specs.Stores.{stores, over, staleIn, powerOnCells, columnCells, restarted};
 
-// All registers but those of what is waited for are 0.
-fn clear(m: &mut [u32; COUNT])
-    ensures { λ _. ⌜ now (m .exit) ≡ take acrossAt (now (m .entry)) ++ replicate (registerCount - acrossAt) 0 ⌝ }
+// Some registers are 0.
+fn clear(m: &mut [u32; COUNT], from: usize, to: usize)
+    requires { ⌜ (from ≤ to) × (to ≤ registerCount) ⌝ }
+    ensures { λ _. ⌜ now (m .exit) ≡ over from (replicate (to - from) 0) (now (m .entry)) ⌝ }
 {
     let n = whole(&*m);
-    let mut i: usize = ACROSS;
-    while i < COUNT {
+    let mut i: usize = from;
+    while i < to {
         m[i] = 0;
         i += 1;
     }
+}
+
+// The places of the channels are 0.
+pub fn clear_channels(m: &mut [u32; COUNT])
+    ensures { λ _. ⌜ now (m .exit) ≡ over channelStopsAt (replicate 128 0) (now (m .entry)) ⌝ }
+{
+    clear(m, CHANNEL_STOPS, COUNT);
 }
 
 // The settings that are not 0, but for those of the start: the right margin is at the paper's width.
@@ -62,13 +69,13 @@ fn store_columns(m: &mut [u32; COUNT])
     m[COLUMN_STOPS + 8] = 72;
 }
 
-// Stores it over all but what is waited for.
+// Stores it over all but what is waited for and the places of the channels, which were never set.
 pub fn power_on(m: &mut [u32; COUNT], setup: Setup)
-    ensures { λ _. ⌜ now (m .exit) ≡ words (staleIn (now (m .entry))) (powerOn setup) ⌝ }
+    ensures { λ _. ⌜ now (m .exit) ≡ words (staleIn (now (m .entry))) (restarted setup (drop channelStopsAt (now (m .entry)))) ⌝ }
 {
     let n = whole(&*m);
     let width = setup.width;
-    clear(&mut *m);
+    clear(&mut *m, ACROSS, CHANNEL_STOPS);
     store_setup(&mut *m, setup);
     store_settings(&mut *m, width);
     store_columns(&mut *m);

@@ -1,24 +1,25 @@
 // The state by value that registers are read as.
+use crate::CHANNEL_COUNTS;
+use crate::CHANNEL_STOPS;
+use crate::CHOSEN;
 use crate::COLUMN_COUNT;
 use crate::COLUMN_STOPS;
 use crate::COUNT;
 use crate::GATHERED_COUNT;
 use crate::GATHERED_STOPS;
-use crate::LINE_COUNT;
-use crate::LINE_STOPS;
-use crate::LINES_SET;
 use crate::groups::place_in;
 use crate::groups::settings_in;
 use crate::pending::waiting_in;
 use crate::stores::whole;
 use printer::state::Printer;
+use printer::stops::Channels;
 use printer::stops::Stops;
 use printer::stops::TabStops;
 ghost use mathlib.Core.Path.{_≡_};
 ghost use Prim.Native.Nat.{_+_, _≤_};
 ghost use lib.ListN.{take, drop};
-ghost use Rattle.registers.specs.Register.{registerCount};
-ghost use Rattle.registers.specs.Groups.{stopsIn};
+ghost use Rattle.registers.specs.Register.{channelCountsAt, channelStopsAt, registerCount};
+ghost use Rattle.registers.specs.Groups.{channelsIn, stopsIn};
 ghost use Rattle.registers.specs.State.{printerIn};
 
 // The stops from a place on.
@@ -27,31 +28,64 @@ fn copied(m: &[u32; COUNT], from: usize) -> [u32; TabStops::ROOM]
     ensures { λ r. ⌜ r ≡ take 32 (drop from (now (m .entry))) ⌝ }
 {
     let n = whole(m);
-    let mut stops = [0; TabStops::ROOM];
+    let mut numbers = [0; TabStops::ROOM];
     let mut i: usize = 0;
     while i < TabStops::ROOM {
-        stops[i] = m[from + i];
+        numbers[i] = m[from + i];
         i += 1;
     }
-    stops
+    numbers
+}
+
+// The channels' counts.
+fn counts_in(m: &[u32; COUNT]) -> [u32; Channels::NUMBER]
+    ensures { λ r. ⌜ r ≡ take 8 (drop channelCountsAt (now (m .entry))) ⌝ }
+{
+    let n = whole(m);
+    let mut numbers = [0; Channels::NUMBER];
+    let mut i: usize = 0;
+    while i < Channels::NUMBER {
+        numbers[i] = m[CHANNEL_COUNTS + i];
+        i += 1;
+    }
+    numbers
+}
+
+// And their places.
+fn places_in(m: &[u32; COUNT]) -> [u32; Channels::ROOM]
+    ensures { λ r. ⌜ r ≡ take 128 (drop channelStopsAt (now (m .entry))) ⌝ }
+{
+    let n = whole(m);
+    let mut numbers = [0; Channels::ROOM];
+    let mut i: usize = 0;
+    while i < Channels::ROOM {
+        numbers[i] = m[CHANNEL_STOPS + i];
+        i += 1;
+    }
+    numbers
+}
+
+fn channels_in(m: &[u32; COUNT]) -> Channels
+    ensures { λ r. ⌜ r ≡ channelsIn (now (m .entry)) ⌝ }
+{
+    Channels {
+        stops: places_in(m),
+        counts: counts_in(m),
+        chosen: m[CHOSEN],
+    }
 }
 
 fn stops_in(m: &[u32; COUNT]) -> Stops
     ensures { λ r. ⌜ r ≡ stopsIn (now (m .entry)) ⌝ }
 {
     let columns = copied(m, COLUMN_STOPS);
-    let lines = copied(m, LINE_STOPS);
     let gathered = copied(m, GATHERED_STOPS);
     Stops {
         columns: TabStops {
             stops: columns,
             count: m[COLUMN_COUNT],
         },
-        lines: TabStops {
-            stops: lines,
-            count: m[LINE_COUNT],
-        },
-        lineset: m[LINES_SET] == 1,
+        channels: channels_in(m),
         gathered: TabStops {
             stops: gathered,
             count: m[GATHERED_COUNT],

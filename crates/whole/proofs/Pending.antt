@@ -2,7 +2,7 @@
 use Prim.Native.Nat.{ℕ}
 use mathlib.Core.Path.{_≡_, refl}
 use mathlib.Core.List.{List, [], _∷_}
-use Rattle.printer.specs.Settings.{downOf, heldIn}
+use Rattle.printer.specs.Settings.{downOf, heldIn, chosenStops}
 use Rattle.printer.specs.Performing.{Event, done, passed, inside, automatic, perform, performAll, recordsOf, recordsAll}
 use Rattle.printer.specs.Deciding.{attempt, ranged, letterEvents, feedAfterReturn, lineFrom, verticalEvents, vertical, controlEvents, decide}
 use Rattle.printer.specs.Steps.{waitFor}
@@ -26,7 +26,7 @@ module _ (p : Printer) (w : Waiting) where
   control-alike Control.FormFeed b = refl
   control-alike Control.HorizontalTab b = refl
   control-alike Control.VerticalTab b =
-      rw (stop-alike (Command.Control Control.VerticalTab b) (lineFrom (downOf (p .place)) 1 (heldIn (p .stops .lines))))
+      rw (stop-alike (Command.Control Control.VerticalTab b) (lineFrom (downOf (p .place)) 1 (heldIn (chosenStops (p .stops)))))
   control-alike Control.Backspace b = refl
   control-alike Control.ShiftOut b = refl
   control-alike Control.ShiftIn b = refl
@@ -50,6 +50,8 @@ module _ (p : Printer) (w : Waiting) where
   decides-alike (Command.Move m a b) = refl
   decides-alike (Command.OpenImage o a b) = refl
   decides-alike (Command.ImageByte m k b) = refl
+  decides-alike (Command.Channel n) = refl
+  decides-alike (Command.OpenList o) = refl
   decides-alike (Command.List k part) = refl
 
   -- Performing

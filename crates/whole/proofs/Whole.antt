@@ -21,7 +21,7 @@ use Rattle.printer.specs.declared.commands.Waiting.{Waiting}
 use Rattle.printer.specs.declared.state.Printer.{Printer}
 use Rattle.printer.proofs.Advanced.{escape-frame}
 use Rattle.printer.proofs.Listed.{every-listed}
-use Rattle.whole.specs.Whole.{Frames, Does, beginning, Escape, shiftOut, shiftIn, reset, mode, switch, one, lines, inches, two, selected, list, keepMode, statusRequest, unlisted, otherThird, otherMode, otherImageMode}
+use Rattle.whole.specs.Whole.{Frames, Does, beginning, Escape, shiftOut, shiftIn, reset, mode, switch, one, lines, inches, two, selected, list, channelList, keepMode, statusRequest, unlisted, otherThird, otherMode, otherImageMode}
 use Rattle.whole.proofs.Pending.{decides-alike, leaves-alike, writes-alike}
 
 -- a byte that is waited on
@@ -94,6 +94,10 @@ select-begins : Begins Begun.SelectMode 0x2A
 unfolding frame
 select-begins upper = rw (every-listed .select)
 
+list-begins : Begins Begun.ListChannel 0x62
+unfolding frame
+list-begins upper = rw (every-listed .listChannel)
+
 mode-selected : (m : ImageMode) (upper : Bool)
     → frame upper (Waiting.Arguments Begun.SelectMode) (imageModeNumber m) ≡ Frame.Waits (Waiting.Arguments (Begun.ColumnsLow m))
 unfolding frame
@@ -109,6 +113,7 @@ one-frames upper (One.Choice c) n = (_, one-begins (One.Choice c) upper, refl)
 one-frames upper One.Skip n = (_, one-begins One.Skip upper, refl)
 one-frames upper One.Feed n = (_, one-begins One.Feed upper, refl)
 one-frames upper (One.Margin side) n = (_, one-begins (One.Margin side) upper, refl)
+one-frames upper One.Channel n = (_, one-begins One.Channel upper, refl)
 
 two-frames : (upper : Bool) (c : Two) (a b : ℕ) → Whole upper (twoCommand c a b) (afterTwo c (a + 256 * b))
 unfolding Frames frame
@@ -128,6 +133,7 @@ escape-frames upper c v (inches n) = (_, page-begins upper, (_, refl, refl))
 escape-frames upper c v (two k a b) = two-frames upper k a b
 escape-frames upper c v (selected m a b) = (_, select-begins upper, (_, mode-selected m upper, (_, refl, refl)))
 escape-frames upper c v (list t) = rw (every-listed .list t)
+escape-frames upper c v (channelList m) = (_, list-begins upper, refl)
 escape-frames upper c v keepMode = (_, advanced-begins upper, (_, refl, refl))
 escape-frames upper c v statusRequest = (_, advanced-begins upper, refl)
 escape-frames upper c v (unlisted b h) = rw (every-listed .noEscape b h)

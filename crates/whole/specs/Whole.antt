@@ -3,7 +3,7 @@ use Prim.Native.Nat.{ℕ, _+_, _*_}
 use mathlib.Core.Path.{_≡_}
 use mathlib.Core.Bool.{Bool, false}
 use mathlib.Core.List.{List, [], _∷_, _++_}
-use Rattle.printer.specs.Framing.{frame, oneCommand, twoCommand, afterTwo, imageWait}
+use Rattle.printer.specs.Framing.{frame, oneCommand, twoCommand, afterTwo, imageWait, openedList}
 use Rattle.printer.specs.Performing.{Event, done, performAll, recordsAll}
 use Rattle.printer.specs.Deciding.{decide}
 use Rattle.printer.specs.Steps.{waitFor, stateAfter, recordsOver, eventsOver}
@@ -12,7 +12,7 @@ use Rattle.printer.specs.declared.commands.Command.{Command}
 use Rattle.printer.specs.declared.commands.Control.{Control}
 use Rattle.printer.specs.declared.commands.Frame.{Frame}
 use Rattle.printer.specs.declared.commands.ImageMode.{ImageMode}
-use Rattle.printer.specs.declared.commands.ListPart.{ListPart}
+use Rattle.printer.specs.declared.commands.ListOpening.{ListOpening}
 use Rattle.printer.specs.declared.commands.Look.{Look}
 use Rattle.printer.specs.declared.commands.Mode.{Mode}
 use Rattle.printer.specs.declared.commands.One.{One}
@@ -54,7 +54,8 @@ pub data Escape : Command → Waiting → Type 0 where
   inches : (n : ℕ) → Escape (Command.Page (Page.Inches n)) Waiting.Nothing
   two : (c : Two) (a b : ℕ) → Escape (twoCommand c a b) (afterTwo c (a + 256 * b))
   selected : (m : ImageMode) (a b : ℕ) → Escape (Command.OpenImage (Opening.Selected m) a b) (imageWait m (a + 256 * b))
-  list : (t : Tabs) → Escape (Command.List t ListPart.Open) (Waiting.StopList t 0)
+  list : (t : Tabs) → Escape (Command.OpenList (ListOpening.Named t)) (Waiting.StopList (openedList (ListOpening.Named t)) 0)
+  channelList : (m : ℕ) → Escape (Command.OpenList (ListOpening.Channel m)) (Waiting.StopList (openedList (ListOpening.Channel m)) 0)
   keepMode : Escape (Command.Silent Silent.KeepMode) Waiting.Nothing
   statusRequest : Escape (Command.Silent Silent.StatusRequest) Waiting.Nothing
   -- and what is passed over in every state

@@ -2,7 +2,7 @@
 
 use super::*;
 use crate::state::MOST_HORIZONTAL_STOPS;
-use crate::{Stops, Waiting};
+use crate::{ChannelStops, Stops, Waiting, CHANNELS};
 
 /// Whether the power-on state is accepted after this change.
 fn accepts(change: impl Fn(&mut State)) -> bool {
@@ -15,10 +15,11 @@ fn accepts(change: impl Fn(&mut State)) -> bool {
     state.accepted()
 }
 
-/// The stops 1, 2 .. so many.
-fn ascending(count: u32) -> Stops {
+/// The stops 1, 2 .. so many, as far as there are slots.
+fn ascending<const SLOTS: usize>(count: usize) -> Stops<SLOTS> {
     let mut stops = Stops::EMPTY;
-    (1..=count).for_each(|stop| stops.add(stop));
+    (1..=count.min(SLOTS)).for_each(|stop| stops.add(stop as u32));
+    stops.count = count;
     stops
 }
 
@@ -85,42 +86,62 @@ fn stops_in_force() {
     assert!(!accepts(|s| s.horizontal.stops[8] = 256));
     assert!(accepts(|s| s.horizontal.stops[9] = 1));
     assert!(accepts(|s| s.horizontal = ascending(32)));
-    let vertical = |count, stop| {
-        accepts(|s| {
-            s.vertical_never_set = false;
-            s.vertical.count = count;
-            s.vertical.stops[0] = stop;
-        })
-    };
-    assert!(vertical(0, 0));
-    assert!(!vertical(1, 0));
-    assert!(vertical(1, 79_199));
-    assert!(!vertical(1, 79_200));
-    assert!(!vertical(usize::MAX, 1));
-    let many = |count| {
-        accepts(|s| {
-            s.vertical_never_set = false;
-            s.vertical = ascending(count);
-        })
-    };
-    assert!(many(16) && !many(17) && !many(32));
+}
+
+/// Each channel has the bounds of vertical stops, whichever is chosen.
+#[test]
+fn channels_in_force() {
+    for (channel, chosen) in (0..CHANNELS).zip([0, 7, 2, 0, 4, 5, 1, 7]) {
+        let set = |stops: ChannelStops| {
+            accepts(|s| {
+                s.channels[channel] = Some(stops.clone());
+                s.chosen = chosen;
+            })
+        };
+        let stops = |count, list: &[u32]| {
+            let mut stops = ChannelStops::EMPTY;
+            stops.stops[..list.len()].copy_from_slice(list);
+            stops.count = count;
+            set(stops)
+        };
+        assert!(stops(0, &[]) && stops(0, &[7, 7, u32::MAX]));
+        assert!(!stops(1, &[0]) && stops(1, &[1]));
+        assert!(stops(1, &[79_199]) && !stops(1, &[79_200]) && !stops(1, &[u32::MAX]));
+        assert!(stops(1, &[5, 4]) && !stops(2, &[5, 4]) && !stops(2, &[5, 5]));
+        assert!(stops(2, &[5, 6]) && !stops(3, &[5, 6]) && !stops(usize::MAX, &[1]));
+        assert!(set(ascending(15)) && set(ascending(16)));
+        for count in [17, 18, 32, 33, 256, 65_536] {
+            assert!(!set(ascending(count)), "{count}");
+        }
+    }
+    assert!(accepts(
+        |s| s.channels = [const { Some(ChannelStops::EMPTY) }; CHANNELS]
+    ));
 }
 
 #[test]
-fn vertical_stops_never_set_are_none() {
-    let stops = |never_set, count| {
-        accepts(|s| {
-            s.vertical_never_set = never_set;
-            s.vertical.count = count;
-            s.vertical.stops[..2].copy_from_slice(&[600, 1_200]);
-        })
-    };
-    for count in [1, 2] {
-        assert!(stops(false, count));
-        assert!(!stops(true, count));
+fn the_chosen_channel_is_0_to_7() {
+    for chosen in 0..=255 {
+        assert_eq!(accepts(|s| s.chosen = chosen), chosen <= 7, "{chosen}");
     }
-    assert!(stops(false, 0));
-    assert!(stops(true, 0));
+}
+
+/// Of a list being dropped nothing is gathered, and its last byte is free.
+#[test]
+fn lists_being_dropped() {
+    for last in 0..=255 {
+        assert!(accepts(|s| s.waiting = Waiting::DroppedStops { last }));
+    }
+}
+
+#[test]
+fn a_list_being_gathered_is_for_a_channel() {
+    for channel in 0..=255 {
+        for last in [0, 1, 255] {
+            let waiting = Waiting::VerticalStops { channel, last };
+            assert_eq!(accepts(|s| s.waiting = waiting), channel <= 7);
+        }
+    }
 }
 
 #[test]
@@ -139,7 +160,7 @@ fn lists_being_gathered() {
     assert!(!horizontal(6, 33, 1));
     let vertical = |last, count, stop| {
         accepts(|s| {
-            s.waiting = Waiting::VerticalStops { last };
+            s.waiting = Waiting::VerticalStops { channel: 3, last };
             s.gathered.count = count;
             s.gathered.stops[0] = stop;
         })
@@ -159,7 +180,10 @@ fn a_list_being_gathered_has_the_limits_of_its_kind() {
         })
     };
     let horizontal = Waiting::HorizontalStops { last: 255 };
-    let vertical = Waiting::VerticalStops { last: 255 };
+    let vertical = Waiting::VerticalStops {
+        channel: 7,
+        last: 255,
+    };
     for count in [0, 1, 16] {
         assert!(gathering(horizontal, count) && gathering(vertical, count));
     }
@@ -185,6 +209,7 @@ fn the_gathering_place_is_free_while_no_list_is_gathered() {
         Waiting::SecondByte,
         Waiting::ThirdByte,
         Waiting::CommandMode,
+        Waiting::DroppedStops { last: 9 },
     ] {
         for count in [0, 33, usize::MAX] {
             let any = Stops {
@@ -209,7 +234,11 @@ fn a_list_begins_empty_and_leaves_the_gathering_place_empty() {
     assert_eq!(state.gathered.list(), [1_200]);
     read_all(&mut state, b"\x00");
     assert_eq!(state.horizontal.list(), [5]);
-    assert_eq!(state.vertical.list(), [1_200]);
+    assert_eq!(state.vertical_stops(), Some(&[1_200][..]));
+    assert_eq!(state.gathered, Stops::EMPTY);
+    read_all(&mut state, b"\x1Bb\x05\x03");
+    assert_eq!(state.gathered.list(), [1_800]);
+    read_all(&mut state, b"\x00\x1Bb\x08\x03\x00");
     assert_eq!(state.gathered, Stops::EMPTY);
 }
 
@@ -224,7 +253,7 @@ fn arguments_so_far() {
             }
         })
     };
-    for command in b"3A+JNlQpSxWw-%tRqk !" {
+    for command in b"3A+JNlQpSxWw-%tRqk !/b" {
         assert!(arguments(*command, 0, 9));
         assert!(!arguments(*command, 1, 0));
     }
@@ -237,7 +266,7 @@ fn arguments_so_far() {
     assert!(arguments(b'C', 1, 0));
     assert!(!arguments(b'C', 1, 1));
     let listed = (0..=255).filter(|&command| arguments(command, 0, 0));
-    assert_eq!(listed.count(), 27);
+    assert_eq!(listed.count(), 29);
 }
 
 /// ESC i has places of its own, and none among the arguments.
@@ -318,6 +347,10 @@ fn the_greatest_values_of_every_field() {
     state.right = u32::MAX;
     state.gathered.count = 1;
     state.gathered.stops = [u32::MAX; MOST_HORIZONTAL_STOPS];
-    state.waiting = Waiting::VerticalStops { last: 255 };
+    state.waiting = Waiting::VerticalStops {
+        channel: 255,
+        last: 255,
+    };
+    state.chosen = 255;
     assert!(!state.accepted());
 }

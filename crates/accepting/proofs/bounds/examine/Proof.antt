@@ -2,6 +2,7 @@
 use mathlib.Core.Path.{sym}
 use denote.Ref.{now}
 use Rattle.printer.specs.Bounds.{accepted}
+use Rattle.registers.specs.Groups.{stopsIn}
 use Rattle.registers.specs.State.{printerIn}
 use Rattle.accepting.proofs.Again.{accepted-again}
 use borrow.Author.Needs.{needs}
@@ -9,7 +10,7 @@ use Rattle.accepting.proofs.bounds.examine.Statement.{statement}
 use Rattle.accepting.proofs.bounds.examine.Tie as tie
 
 returns : tie.Need-returns
-unfolding accepted printerIn
+unfolding accepted printerIn stopsIn
 returns c =
     let p = c .before .before .before in
     let s = p .before .before in
@@ -17,7 +18,7 @@ returns c =
     let b = w .before in (
       rw (
         c .waiting-within .ensures,
-        c .before .lines-within .ensures,
+        c .before .channels-within .ensures,
         c .before .before .columns-within .ensures,
         p .place-within .ensures,
         p .before .settings-within .ensures,

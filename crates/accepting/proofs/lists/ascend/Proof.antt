@@ -1,8 +1,8 @@
--- The loop over the stops: those left, after those passed, are within the bounds just if all are.
+-- The loop over the stops: the last one passed, and those left, are within the bounds just if all are.
 use Prim.Native.Nat.{_-_}
 use native.Mathlib.Omega.{arith}
 use borrow.Author.Needs.{needs}
-use Rattle.accepting.proofs.StopLists.{Left, begins, ends, too-low, too-high, goes-on, too-many}
+use Rattle.accepting.proofs.StopLists.{Left, begins, ends, too-low, goes-on, too-many}
 use Rattle.accepting.proofs.lists.ascend.Statement.{statement}
 use Rattle.accepting.proofs.lists.ascend.Tie as tie
 
@@ -27,21 +27,16 @@ read-stop c = omega (arith, c .before .before .loop .inv .held, c .before .loop-
 returns-2 : tie.Need-returns-2 Inv-loop μ-loop
 returns-2 c = let b = c .before .before in too-low (b .before .loop .inv) (b .loop-test .taken) (c .if2 .taken)
 
-returns-3 : tie.Need-returns-3 Inv-loop μ-loop
-returns-3 c =
-    let b = c .before .before .before in
-    too-high (b .before .loop .inv) (b .loop-test .taken) (c .before .if2 .left) (c .if3 .taken)
-
 loop-again : tie.Need-loop-again Inv-loop μ-loop
 loop-again c =
-    let b = c .before .before .before in
-    goes-on (b .before .loop .inv) (b .loop-test .taken) (c .before .if2 .left) (c .if3 .left)
+    let b = c .before .before in
+    goes-on (b .before .loop .inv) (b .loop-test .taken) (c .if2 .left)
 
-returns-4 : tie.Need-returns-4 Inv-loop μ-loop
-returns-4 c = ends (c .before .loop .inv) (c .loop-test .left)
+returns-3 : tie.Need-returns-3 Inv-loop μ-loop
+returns-3 c = ends (c .before .loop .inv) (c .loop-test .left)
 
 pub ascend-spec : {M : Type 1} → statement M
 ascend-spec =
     tie.close
-    (tie.spec Inv-loop μ-loop returns (λ c κs. search needs) loop-holds mul-stop read-stop returns-2 returns-3
-    (λ c. search needs) (λ c. search needs) loop-again returns-4)
+    (tie.spec Inv-loop μ-loop returns (λ c κs. search needs) loop-holds mul-stop read-stop returns-2
+    (λ c. search needs) (λ c. search needs) loop-again returns-3)

@@ -16,5 +16,5 @@ other-second-spec =
     (λ c. rw (c .match .keys7)) (λ c. rw (c .match .keys8)) (λ c. rw (c .match .keys9))
     (λ c. rw (c .match .keys10)) (λ c. rw (c .match .keys11)) (λ c. rw (c .match .keys12))
     (λ c. rw (c .match .keys13)) (λ c. rw (c .match .keys14)) (λ c. rw (c .match .keys15))
-    (λ c. rw (c .match .keys16))
-    (λ c. lookup-rest 16 (coded secondCode otherEscapes) Second.Unlisted _ (c .match .rest)))
+    (λ c. rw (c .match .keys16)) (λ c. rw (c .match .keys17)) (λ c. rw (c .match .keys18))
+    (λ c. lookup-rest 18 (coded secondCode otherEscapes) Second.Unlisted _ (c .match .rest)))

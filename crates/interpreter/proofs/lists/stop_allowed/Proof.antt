@@ -13,7 +13,7 @@ returns c =
     let a = c .before .before .args in
     let n = a .count in
     let most = c .before .most .result in (
-      simp (c .stop-fits .ensures .0, c .before .most .ensures),
+      λ w. simp (c .stop-fits .ensures .0 w, c .before .most .ensures),
       λ e. (
         let h = ltb-true n most (both-left (ltb n most) _ e) in omega (arith, most-room (a .k), c .before .most .ensures),
         c .stop-fits .ensures .1 (both-right (ltb n most) _ e),

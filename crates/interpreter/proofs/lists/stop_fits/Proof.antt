@@ -9,12 +9,12 @@ use Rattle.interpreter.proofs.lists.stop_fits.Tie as tie
 returns : tie.Need-returns
 returns c =
     rw (c .before .enum-told .given .1, both-true)
-    (c .column-fits .ensures, λ _. omega (arith, c .before .before .before .before .before .fits .b))
+    (λ e. rw e at (c .column-fits .ensures), λ _. omega (arith, c .before .before .before .before .fits .b))
 
 returns-2 : tie.Need-returns-2
 returns-2 c =
     let b = c .before .before in (
-      c .line-fits .ensures .0 ∙ simp (c .before .edge .ensures, b .stop-of .ensures, b .before .enum-told2 .given .1, both-true),
+      λ _. c .line-fits .ensures .0 ∙ simp (c .before .edge .ensures, b .stop-of .ensures, b .before .enum-told2 .given .1, both-true),
       λ e. rw (b .stop-of .ensures) at (c .line-fits .ensures .1 e),
     )
 

@@ -1,10 +1,10 @@
 -- An argument, by those so far.
 use mathlib.Core.Path.{refl}
-use borrow.Author.Needs.{needs}
 use Rattle.printer.specs.declared.commands.Command.{Command}
 use Rattle.printer.specs.declared.commands.Opening.{Opening}
 use Rattle.interpreter.proofs.Escaping.{silently}
 use Rattle.interpreter.proofs.Stepping.{argument-frame, waited, whole}
+use borrow.Author.Needs.{needs}
 use Rattle.interpreter.proofs.steps.argument_step.Statement.{statement}
 use Rattle.interpreter.proofs.steps.argument_step.Tie as tie
 
@@ -46,8 +46,17 @@ returns-10 c p v h =
     rw (c .waits3 .ensures, c .before .image-wait .ensures)
     (whole h _ (argument-frame h _ refl (d .1)) (silently (Command.OpenImage (Opening.Selected (d .0 .0)) (d .0 .1 .0) b) refl (h .held .same)))
 
+returns-11 : tie.Need-returns-11
+returns-11 c p v h = c .before .before .channel-step .ensures p v (rw (c .before .before .before .before .before .enum-told6 .given .1) at h)
+
 pub argument-step-spec : {M : Type 1} → statement M
 argument-step-spec =
     tie.close
-    (tie.spec (λ c. search needs) (λ c κs. search needs) (λ c κs. search needs) (λ c. search needs) (λ c κs. search needs) (λ c. search needs) (λ c κs. search needs) (λ c κs. search needs) (λ c. search needs) (λ c κs. search needs) (λ c. search needs) (λ c κs. search needs) (λ c. search needs) (λ c κs. search needs) (λ c. search needs) (λ c κs. search needs) (λ c. search needs) (λ c κs. search needs) (λ c. search needs) (λ c κs. search needs) (λ c. search needs) (λ c. search needs) (λ c. search needs) (λ c. search needs) (λ c κs. search needs) (λ c κs. search needs)
-    (λ c. search needs) returns (λ c. search needs) returns-2 (λ c. search needs) returns-3 (λ c. search needs) returns-4 (λ c. search needs) returns-5 returns-6 (λ c. search needs) returns-7 (λ c. search needs) returns-8 returns-9 returns-10)
+    (tie.spec (λ c. search needs) (λ c κs. search needs) (λ c κs. search needs) (λ c. search needs) (λ c κs. search needs)
+    (λ c. search needs) (λ c κs. search needs) (λ c κs. search needs) (λ c. search needs) (λ c κs. search needs)
+    (λ c. search needs) (λ c κs. search needs) (λ c. search needs) (λ c κs. search needs) (λ c. search needs)
+    (λ c κs. search needs) (λ c. search needs) (λ c κs. search needs) (λ c. search needs) (λ c κs. search needs)
+    (λ c. search needs) (λ c. search needs) (λ c. search needs) (λ c. search needs) (λ c κs. search needs)
+    (λ c κs. search needs) (λ c. search needs) (λ c κs. search needs) (λ c. search needs) returns (λ c. search needs)
+    returns-2 (λ c. search needs) returns-3 (λ c. search needs) returns-4 (λ c. search needs) returns-5 returns-6
+    (λ c. search needs) returns-7 (λ c. search needs) returns-8 returns-9 returns-10 (λ c. search needs) returns-11)

@@ -15,7 +15,7 @@ returns : tie.Need-returns
 returns c p v h e =
     let k = c .before .before .before .before .before .before in
     let b = k .before .before .before .args .b in
-    whole h b (e ∙ ap (λ (f : First). firstFrame f b) (k .f .given .1)) (c .before .before .control .ensures p v (h .held))
+    whole h b (e ∙ ap (λ (f : First). firstFrame f b) (k .f .given .1)) (c .before .before .control .ensures p v (h .held) (h .accepted .channels .0))
 
 returns-2 : tie.Need-returns-2
 returns-2 c p v h e =

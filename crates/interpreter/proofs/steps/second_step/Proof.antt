@@ -1,14 +1,14 @@
--- An escape's second byte, by what it is.
+-- An escape.s second byte, by what it is.
+use Rattle.printer.specs.declared.commands.ListOpening.{ListOpening}
 use mathlib.Core.Path.{refl, sym, _∙_}
 use native.Mathlib.Omega.{arith}
-use borrow.Author.Needs.{needs}
 use Rattle.printer.specs.declared.commands.Command.{Command}
-use Rattle.printer.specs.declared.commands.ListPart.{ListPart}
 use Rattle.printer.specs.declared.commands.Look.{Look}
 use Rattle.printer.specs.declared.commands.Refused.{Refused}
 use Rattle.interpreter.proofs.Escaping.{refused, silently, in-range, allowed}
 use Rattle.interpreter.proofs.Shifts.{only-shifts}
 use Rattle.interpreter.proofs.Stepping.{second-frame, waited, whole}
+use borrow.Author.Needs.{needs}
 use Rattle.interpreter.proofs.steps.second_step.Statement.{statement}
 use Rattle.interpreter.proofs.steps.second_step.Tie as tie
 
@@ -51,11 +51,11 @@ returns-5 c p v h =
 
 returns-6 : tie.Need-returns-6
 returns-6 c p v h =
-    let k = c .before .before .before .before in
-    let opens = Command.List (k .s5 .given .0 .0) ListPart.Open in
-    rw (c .waits2 .ensures)
-    (whole h _ (second-frame h _ refl (k .before .before .before .pre .1) (k .s5 .given .1))
-    (allowed opens 3 refl (silently opens refl (c .before .open-list .ensures p v (h .held)))))
+    let k = c .before .before .before .before .before in
+    let opens = Command.OpenList (ListOpening.Named (k .s5 .given .0 .0)) in
+    rw (c .waits2 .ensures, c .before .named-list .ensures)
+    (whole h _ {c = opens} (second-frame h _ refl (k .before .before .before .pre .1) (k .s5 .given .1))
+    (allowed opens 2 refl (silently opens refl (c .before .before .open-list .ensures p v (h .held)))))
 
 returns-7 : tie.Need-returns-7
 returns-7 c p v h =
@@ -71,6 +71,6 @@ second-step-spec =
     (tie.spec (λ c. search needs) shift-requires (λ c κs. search needs) (λ c. search needs) (λ c κs. search needs)
     (λ c κs. search needs) (λ c. search needs) (λ c κs. search needs) (λ c κs. search needs) (λ c. search needs)
     (λ c κs. search needs) (λ c κs. search needs) (λ c. search needs) (λ c κs. search needs) (λ c. search needs)
-    (λ c κs. search needs) (λ c κs. search needs) (λ c. search needs) (λ c κs. search needs) (λ c κs. search needs)
-    (λ c. search needs) returns (λ c. search needs) returns-2 returns-3 returns-4 returns-5 returns-6 (λ c. search needs)
-    returns-7)
+    (λ c κs. search needs) (λ c κs. search needs) (λ c κs. search needs) (λ c. search needs) (λ c κs. search needs)
+    (λ c κs. search needs) (λ c. search needs) returns (λ c. search needs) returns-2 returns-3 returns-4 returns-5
+    returns-6 (λ c. search needs) returns-7)

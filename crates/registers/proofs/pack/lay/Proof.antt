@@ -1,4 +1,4 @@
--- The loop over the stops: what is stored is laid over the registers.
+-- The loop over the numbers: what is stored is laid over the registers.
 use Prim.Native.Nat.{_-_, _≤_}
 use mathlib.Core.Path.{_≡_}
 use native.Mathlib.Omega.{arith}
@@ -10,35 +10,32 @@ use Rattle.registers.proofs.pack.lay.Statement.{statement}
 use Rattle.registers.proofs.pack.lay.Tie as tie
 
 abbrev Inv-loop : tie.InvT-loop
-Inv-loop m₀ from stops n i₀ m i = (i ≤ 32) × Laid from stops m₀ m i
+Inv-loop m₀ from numbers n i₀ m i = (i ≤ length numbers) × Laid from numbers m₀ m i
 
 abbrev μ-loop : tie.MeasureT-loop
-μ-loop m₀ from stops n i₀ m i = 32 - i
+μ-loop m₀ from numbers n i₀ m i = length numbers - i
 
 loop-holds : tie.Need-loop-holds Inv-loop μ-loop
 loop-holds c =
-    let s = c .before .before in
-    let e : length (s .args .t3) ≡ 32 = search needs in
-    (omega arith, laid-none (s .args .from) (s .args .t3) (now (s .args .m)) (omega (arith, c .whole .ensures .1, s .pre)))
+    let s = c .before .before .before in
+    (omega arith, laid-none (s .args .from) (now (s .args .numbers)) (now (s .args .m)) (omega (arith, c .whole .ensures .1, s .pre)))
 
 loop-again : tie.Need-loop-again Inv-loop μ-loop
 loop-again c =
-    let l = c .before in
+    let l = c .before .before in
     let w = l .before in
-    let s = w .before .before in
-    let e : length (s .args .t3) ≡ 32 = search needs in (
+    let s = w .before .before .before in (
       omega arith,
-      laid-more (s .args .from) (s .args .t3) (now (s .args .m)) (omega (arith, w .whole .ensures .1, s .pre)) (omega arith) (l .loop .inv .1),
+      laid-more (s .args .from) (now (s .args .numbers)) (now (s .args .m)) (omega (arith, w .whole .ensures .1, s .pre)) (omega arith) (l .loop .inv .1),
     )
 
 returns : tie.Need-returns Inv-loop μ-loop
 returns c =
     let l = c .before in
     let w = l .before in
-    let s = w .before .before in
-    let e : length (s .args .t3) ≡ 32 = search needs in
-    let k : l .loop .i ≡ length (s .args .t3) = omega arith in
-    laid-all (s .args .from) (s .args .t3) (now (s .args .m)) (omega (arith, w .whole .ensures .1, s .pre)) (l .loop .inv .1) k
+    let s = w .before .before .before in
+    let k : l .loop .i ≡ length (now (s .args .numbers)) = omega arith in
+    laid-all (s .args .from) (now (s .args .numbers)) (now (s .args .m)) (omega (arith, w .whole .ensures .1, s .pre)) (l .loop .inv .1) k
 
 pub lay-spec : {M : Type 1} → statement M
 lay-spec =

@@ -1,4 +1,4 @@
--- The loop over the registers: the first i stops are those of the part from a place on.
+-- The loop over the registers: the first i numbers are those of the part from a place on.
 use Prim.Native.Nat.{_-_}
 use mathlib.Core.Path.{_≡_, refl, sym}
 use native.Mathlib.Omega.{arith}
@@ -10,10 +10,10 @@ use Rattle.registers.proofs.unpack.copied.Statement.{statement}
 use Rattle.registers.proofs.unpack.copied.Tie as tie
 
 abbrev Inv-loop : tie.InvT-loop
-Inv-loop m from n stops₀ i₀ stops i = Copied (take 32 (drop from m)) stops 32 i
+Inv-loop m from n numbers₀ i₀ numbers i = Copied (take 32 (drop from m)) numbers 32 i
 
 abbrev μ-loop : tie.MeasureT-loop
-μ-loop m from n stops₀ i₀ stops i = 32 - i
+μ-loop m from n numbers₀ i₀ numbers i = 32 - i
 
 loop-holds : tie.Need-loop-holds Inv-loop μ-loop
 loop-holds c = record { passed = omega arith; long = refl; same = refl }

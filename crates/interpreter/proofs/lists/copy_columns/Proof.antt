@@ -1,4 +1,4 @@
--- The gathered list over another one.
+-- The gathered list over that of the columns.
 use Prim.Native.Nat.{_+_, _-_, _≤_}
 use mathlib.Core.Path.{_≡_, sym, _∙_}
 use native.Mathlib.Omega.{arith}
@@ -6,16 +6,16 @@ use borrow.Author.Needs.{needs}
 use denote.Ref.{now}
 use lib.ListN.{length, drop, length-drop}
 use lib.Seq.{getD-drop}
-use Rattle.registers.specs.Register.{gatheredCountAt, registerCount}
-use Rattle.interpreter.proofs.Pasting.{Laid, begins, goes-on, still, whole}
-use Rattle.interpreter.proofs.lists.copy_gathered.Statement.{statement}
-use Rattle.interpreter.proofs.lists.copy_gathered.Tie as tie
+use Rattle.registers.specs.Register.{columnCountAt, gatheredCountAt, registerCount}
+use Rattle.interpreter.proofs.Pasting.{Laid, begins, goes-on, still}
+use Rattle.interpreter.proofs.lists.copy_columns.Statement.{statement}
+use Rattle.interpreter.proofs.lists.copy_columns.Tie as tie
 
 abbrev Inv-loop : tie.InvT-loop
-Inv-loop m₀ to i₀ m i = (i ≤ 33) × (length m₀ ≡ registerCount → Laid m₀ to (drop gatheredCountAt m₀) i m)
+Inv-loop m₀ i₀ m i = (i ≤ 33) × (length m₀ ≡ registerCount → Laid m₀ columnCountAt (drop gatheredCountAt m₀) i m)
 
 abbrev μ-loop : tie.MeasureT-loop
-μ-loop m₀ to i₀ m i = 33 - i
+μ-loop m₀ i₀ m i = 33 - i
 
 loop-holds : tie.Need-loop-holds Inv-loop μ-loop
 loop-holds c = (omega arith, λ _. begins _ _ _)
@@ -33,12 +33,11 @@ loop-again c =
 
 returns : tie.Need-returns Inv-loop μ-loop
 returns c e =
-    let m = now (c .before .before .args .m) in
-    let k : length (drop gatheredCountAt m) ≡ 33 = simp length-drop (omega arith) in
-    rw k at (whole (c .before .loop .inv .1 e) (omega arith))
+    let i : c .before .loop .i ≡ 33 = omega arith in
+    rw i at (c .before .loop .inv .1 e .same)
 
-pub copy-gathered-spec : {M : Type 1} → statement M
-copy-gathered-spec =
+pub copy-columns-spec : {M : Type 1} → statement M
+copy-columns-spec =
     tie.close
     (tie.spec Inv-loop μ-loop loop-holds (λ c. search needs) (λ c. search needs) (λ c. search needs) (λ c. search needs)
     (λ c. search needs) (λ c. search needs) (λ c. search needs) (λ c. search needs) loop-again returns)
