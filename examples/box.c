@@ -135,7 +135,7 @@ static uint32_t begin_of(const escp_state *state, uint32_t slot)
         if (stop < units)
             units = stop;
     }
-    return (units * state->dots_across + 1800) / 3600;
+    return escp_dot(units, state->dots_across);
 }
 
 /*
@@ -205,7 +205,7 @@ static const char *reason_of(uint8_t reason)
  */
 static void tell(box *box, const char *why)
 {
-    printf("%s, row %u\n", why, (unsigned)((box->state.down * box->state.dots_down + 1800) / 3600));
+    printf("%s, row %u\n", why, (unsigned)escp_dot(box->state.down, box->state.dots_down));
     for (unsigned slot = 0; slot < SLOTS; slot++) {
         printf("slot %u (electricians: %u): ", slot + 1, slot);
         tell_word(&box->letters, begin_of(&box->state, slot), begin_of(&box->state, slot + 1));

@@ -128,7 +128,7 @@ static uint16_t begin_of(const escp_state *state, uint32_t slot)
         if (stop < units)
             units = stop;
     }
-    return (uint16_t)((units * state->dots_across + 1800) / 3600);
+    return (uint16_t)escp_dot(units, state->dots_across);
 }
 
 /* Finds the newest letter from one column to another, both included; without one its mark is 0. What is wrong, or NULL. */

@@ -32,6 +32,25 @@
 #include <stddef.h>
 #include <stdint.h>
 
+/* The version of header and library, as text, and for #if as 10000 x major + 100 x minor + patch. */
+#define ESCP_VERSION "0.1.0"
+#define ESCP_VERSION_NUMBER 100
+
+/*
+ * What a call needs. Of other libraries memcpy and memset, and nothing else. At most 512 bytes of stack below its
+ * caller, as measured (docs/SPEED.md has the figures). No heap, no file, no clock, no lock; no memory of its own that
+ * is written.
+ *
+ * Threads: calls may run at the same time, as long as none writes what another reads or writes: a state is for one call
+ * at a time. Signal handlers may make calls, with a state and an output that no interrupted call works on; a call that
+ * is interrupted goes on as if nothing had been. On a board without an operating system an interrupt must leave the
+ * registers that it uses as they were, those of SSE among them, and the 128 bytes below the stack pointer, as the
+ * calling convention of x86-64 Linux has it.
+ *
+ * Time: a reading call takes time with the bytes that it reads, which the allowance bounds, escp_slot with the records
+ * from the newest back to the one found, or to where the page begins, and escp_write with the letters.
+ */
+
 #ifdef __cplusplus
 extern "C" {
 #endif
@@ -238,6 +257,24 @@ enum {
     ESCP_NO_STOP = 5      /* no stop to the right */
 };
 
+/* The style bits of a TX. */
+enum {
+    ESCP_BOLD = 0x0001,          /* ESC E */
+    ESCP_DOUBLE_STRIKE = 0x0002, /* ESC G */
+    ESCP_ITALIC = 0x0004,        /* ESC 4 */
+    ESCP_UNDERLINE = 0x0008,     /* ESC - 1 */
+    ESCP_SUPERSCRIPT = 0x0010,   /* ESC S 0 */
+    ESCP_SUBSCRIPT = 0x0020,     /* ESC S 1 */
+    ESCP_DOUBLE_WIDTH = 0x0040,  /* ESC W 1, SO: its advance is doubled already */
+    ESCP_DOUBLE_HEIGHT = 0x0080, /* ESC w 1 */
+    ESCP_OUTLINE = 0x0100,       /* ESC q 1 and 3 */
+    ESCP_SHADOW = 0x0200,        /* ESC q 2 and 3 */
+    ESCP_PROPORTIONAL = 0x0400,  /* ESC p 1 */
+    ESCP_REDUCED = 0x0800,       /* SI: its advance is reduced already */
+    ESCP_ITALIC_TABLE = 0x1000,  /* ESC t 0: of the two code tables the italic one; its upper half is the lower in italics */
+    ESCP_DOWNLOAD = 0x2000       /* ESC % 1: a character that was downloaded */
+};
+
 /*
  * A record by its fields. Those that its mark does not name are 0.
  *
@@ -292,6 +329,48 @@ static inline void escp_fill_record(escp_record *record, const uint8_t *bytes)
     }
 }
 
+/*
+ * Geometry: where a record lies on the paper.
+ *
+ * Every letter and image column has an exact place in units of 1/3600 inch, across from the left of the paper and down
+ * from the top of the page. The record has the nearest dots of it: dot = (units x D + 1800) div 3600, where D is
+ * dots_across of the state for a column and dots_down for a row (escp_dot). Only places are rounded: widths, feeds and
+ * stops add up in units. So the dots of an advance are not to be added up: at 203 dots letters of 360 units stand at 0,
+ * 20, 41, 61. A letter's cell goes from its place to the right by its advance, spacing included; how high it is the
+ * papers leave open.
+ *
+ * A horizontal tab stop of n columns lies at left + n x column_width units, with the numbers of the state now: stops
+ * move with the left margin, the pitch and the width of letters. HT goes only to those at or before `right`. So a slot
+ * that begins at a stop begins at the dot column escp_dot(state->left + n * state->column_width, state->dots_across). A
+ * vertical stop, of whichever channel, is units from the top.
+ *
+ * Of an image byte the highest bit, 80h, is on top. A bit that is set is a dot, as wide as its column: `advance` units.
+ * A column of one byte (font 0) has 8 dots, ESCP_DOT_OF_ONE units apart down; one of three (font 1, 2 and 3, from the
+ * top) has 24, ESCP_DOT_OF_THREE units apart. All three of its bytes have the column's place and row. The first dot
+ * begins at the row, and either kind is 480 units high. (Document 002 draws the columns of three bytes so. Those of one
+ * it does not draw; they are taken to fill the same height, that of document 000's line buffer, 48/360 inch.)
+ */
+
+/* How far apart the dots of an image byte lie down, in units: where a column has one byte, and where it has three. */
+enum {
+    ESCP_DOT_OF_ONE = 60,
+    ESCP_DOT_OF_THREE = 20
+};
+
+/* The dot nearest to a place in units, at so many dots to the inch; places up to 14000000. */
+static inline uint32_t escp_dot(uint32_t units, uint32_t dots)
+{
+    return (units * dots + 1800u) / 3600u;
+}
+
+/* How far below its row a dot of an image byte begins, in units: of dots 0 to 7, from the top, of a byte with this font. */
+static inline uint32_t escp_dot_below(uint8_t font, uint32_t dot)
+{
+    if (font == 0)
+        return dot * ESCP_DOT_OF_ONE;
+    return ((font - 1u) * 8u + dot) * ESCP_DOT_OF_THREE;
+}
+
 /* The answers of escp_slot. They are its own: of another call the same number may say something else. */
 enum {
     ESCP_ANSWERED = 0,      /* the record was found, or there is none */
@@ -303,6 +382,21 @@ typedef struct escp_part {
     size_t offset;
     size_t length;
 } escp_part;
+
+/*
+ * What may be let go of a list, at any time, so that escp_slot answers the same, now and when more is joined to it:
+ *
+ * - all up to the last LN whose pages are not 0, and that LN;
+ * - a CL, with all since the LN or CL before it, or since the list's beginning;
+ * - IM and NO, and what has no mark of a record;
+ * - an LN of 0 pages, where no TX is left between it and the LN or CL before it, or the list's beginning;
+ * - where no CL is left, a TX that a newer one with the same column hides, if an LN comes after both, or after neither.
+ *   (Not one that an LN comes after for one that none does: a CL to come may void the newer one, and the older is the
+ *   answer again.)
+ *
+ * So two letters for each dot column are enough, 4,800 of the widest paper, and an LN between them. examples/box.c runs
+ * on in that.
+ */
 
 /*
  * Finds what stands under a slot now: of a list of records, the last TX that survives on the present page and whose

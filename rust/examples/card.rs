@@ -8,7 +8,7 @@
 //! ```
 
 use ierbulosc::{
-    records, slot, Record, Settings, State, ALLOWANCE_USED, INPUT_USED, LENGTH_REFUSED,
+    dot, records, slot, Record, Settings, State, ALLOWANCE_USED, INPUT_USED, LENGTH_REFUSED,
     OUTPUT_FULL, ROOM, SETTINGS_REFUSED, STATE_REFUSED,
 };
 use std::io::Read;
@@ -168,7 +168,7 @@ fn begin(state: &State, slot: usize) -> u16 {
     let place = |stop: &u32| state.left + stop * state.column_width;
     let units = stops.map(place).nth(slot).unwrap_or(state.right);
     let units = units.min(state.right);
-    ((units * state.dots_across + 1_800) / 3_600) as u16
+    dot(units, state.dots_across) as u16
 }
 
 /// The word that stands now from one column to another, both included, below

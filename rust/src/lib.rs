@@ -20,16 +20,22 @@
 //! assert_eq!(records.next(), None);
 //! ```
 
+mod geometry;
 pub mod interface;
 mod letters;
 mod records;
 mod state;
+pub mod style;
 
 use interface::{escp_read, escp_slot, escp_start, escp_write, Counts, Part};
 
+pub use geometry::*;
 pub use letters::*;
 pub use records::*;
 pub use state::*;
+
+/// The version of cover, header and library.
+pub const VERSION: &str = env!("CARGO_PKG_VERSION");
 
 /// All of the input was read; of a start: it is done.
 pub const INPUT_USED: u8 = 0;

@@ -37,10 +37,10 @@ pub enum Record {
         byte: u8,
         /// The ESC k number.
         font: u8,
-        /// Bits, from the lowest: bold, double strike, italic, underline,
-        /// superscript, subscript, double width, double height, two of the
-        /// ESC q number, proportional, reduced, italic code table, download
-        /// set.
+        /// Bits, by name in [`style`](crate::style); from the lowest: bold,
+        /// double strike, italic, underline, superscript, subscript, double
+        /// width, double height, two of the ESC q number, proportional,
+        /// reduced, italic code table, download set.
         style: u16,
         /// The ESC R number.
         country: u8,

@@ -3,7 +3,7 @@
 //! inch, reads back to the very picture that Ghostscript draws of it as a
 //! bitmap.
 
-use ierbulosc::{records, Record, Settings, State, INPUT_USED, NEW_TOP, NOTHING, ROOM};
+use ierbulosc::{dot_below, records, Record, Settings, State, INPUT_USED, NEW_TOP, NOTHING, ROOM};
 
 const SENT: &[u8] = include_bytes!("../../cases/gate.prn");
 const DRAWN: &[u8] = include_bytes!("../../cases/gate.pbm");
@@ -57,10 +57,11 @@ impl Picture {
             };
             assert_eq!(u32::from(advance) * DOTS, 3_600);
             let x = drivers_dot(column, across);
-            let top = drivers_dot(row, down) + 8 * (usize::from(part) - 1);
+            let top = drivers_dot(row, down);
             for bit in (0..8).filter(|&bit| dot(&[byte], bit)) {
-                assert!(x < size.width && top + bit < size.height);
-                black[(top + bit) * size.width + x] = true;
+                let y = top + (dot_below(part, bit as u32) * DOTS / 3_600) as usize;
+                assert!(x < size.width && y < size.height);
+                black[y * size.width + x] = true;
             }
         }
         Picture { black, ..*size }

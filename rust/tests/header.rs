@@ -351,6 +351,48 @@ fn c_constant(name: &str) -> usize {
     value.split('*').map(factor).product()
 }
 
+/// The names of the style bits and of an image's geometry.
+fn names() -> [(&'static str, usize); 16] {
+    use ierbulosc::{style, DOT_OF_ONE, DOT_OF_THREE};
+    [
+        ("BOLD", style::BOLD.into()),
+        ("DOUBLE_STRIKE", style::DOUBLE_STRIKE.into()),
+        ("ITALIC", style::ITALIC.into()),
+        ("UNDERLINE", style::UNDERLINE.into()),
+        ("SUPERSCRIPT", style::SUPERSCRIPT.into()),
+        ("SUBSCRIPT", style::SUBSCRIPT.into()),
+        ("DOUBLE_WIDTH", style::DOUBLE_WIDTH.into()),
+        ("DOUBLE_HEIGHT", style::DOUBLE_HEIGHT.into()),
+        ("OUTLINE", style::OUTLINE.into()),
+        ("SHADOW", style::SHADOW.into()),
+        ("PROPORTIONAL", style::PROPORTIONAL.into()),
+        ("REDUCED", style::REDUCED.into()),
+        ("ITALIC_TABLE", style::ITALIC_TABLE.into()),
+        ("DOWNLOAD", style::DOWNLOAD.into()),
+        ("DOT_OF_ONE", DOT_OF_ONE as usize),
+        ("DOT_OF_THREE", DOT_OF_THREE as usize),
+    ]
+}
+
+#[test]
+fn names_are_those_of_the_header() {
+    for (name, number) in names() {
+        assert_eq!(c_constant(name), number, "{name}");
+    }
+}
+
+#[test]
+fn version_is_that_of_the_header() {
+    let version = between(HEADER, "#define ESCP_VERSION \"", "\"\n");
+    assert_eq!(version, Some(ierbulosc::VERSION));
+    let parts = ierbulosc::VERSION.split('.').map(|part| part.parse());
+    let parts: Vec<u32> = parts.map(Result::unwrap).collect();
+    assert!(parts.len() == 3 && parts[1..].iter().all(|&part| part < 100));
+    let number = parts.iter().fold(0, |number, part| 100 * number + part);
+    let written = between(HEADER, "#define ESCP_VERSION_NUMBER ", "\n");
+    assert_eq!(written, Some(number.to_string().as_str()));
+}
+
 /// The number of a mark.
 fn mark(letters: &[u8; 2]) -> usize {
     u16::from_le_bytes(*letters).into()
@@ -404,7 +446,7 @@ fn constants_are_those_of_the_header() {
     for (name, number) in constants {
         assert_eq!(c_constant(name), number, "{name}");
     }
-    assert_eq!(c_constants().len(), constants.len());
+    assert_eq!(c_constants().len(), constants.len() + names().len());
 }
 
 /// The number that the header's function fills a field with, from these bytes:
