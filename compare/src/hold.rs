@@ -173,7 +173,7 @@ impl Pair {
         let plain = Came::from_start(answer, registers::registers(&state));
         self.plain = Some(state);
         let (answer, state) = Registers::start(settings);
-        let proved = Came::from_start(answer, Some(state));
+        let proved = Came::from_start(answer.number(), Some(state));
         self.proved = state;
         self.started = true;
         let same = plain == proved;
@@ -212,7 +212,7 @@ impl Pair {
         let mut out = vec![FILL; room];
         let report = self.proved.read(input, allowance, &mut out);
         Came {
-            answer: report.answer,
+            answer: report.answer.number(),
             read: report.read,
             written: report.written,
             out,

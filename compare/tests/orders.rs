@@ -3,7 +3,7 @@
 
 use compare::generate::input;
 use compare::random::Random;
-use ierbulosc::{records, Record, Settings, State, INPUT_USED, NOTHING, NOT_ALLOWED, ROOM};
+use ierbulosc::{records, Answer, Record, Settings, State, NOTHING, NOT_ALLOWED, ROOM};
 
 const ESC: u8 = 0x1B;
 /// ESC too, while 80h to 9Fh are no letters.
@@ -83,7 +83,7 @@ fn state(random: &mut Random) -> State {
 fn read(state: &mut State, input: &[u8]) -> Vec<Record> {
     let mut out = vec![0; ROOM * (input.len() + 1)];
     let report = state.read(input, usize::MAX, &mut out);
-    assert_eq!(report.answer, INPUT_USED);
+    assert_eq!(report.answer, Answer::Done);
     records(&out[..report.written]).collect()
 }
 

@@ -4,7 +4,7 @@
 
 use compare::fields::set;
 use compare::registers::{follows, plain, registers};
-use ierbulosc::{Settings, State, STATE_REFUSED};
+use ierbulosc::{Answer, Settings, State};
 
 const STATES: &str = include_str!("../../cases/states.txt");
 const SHORT: &str = include_str!("../../cases/short.txt");
@@ -103,7 +103,7 @@ fn bounds() {
         };
         counts[place] += 1;
         let answer = { state }.read(&[], 0, &mut []).answer;
-        assert_eq!(answer != STATE_REFUSED, accepted, "{words:?}");
+        assert_eq!(answer != Answer::StateRefused, accepted, "{words:?}");
         let plain_accepts = told.is_some_and(|state| state.accepted());
         assert_eq!(plain_accepts, accepted, "{words:?}");
     }

@@ -77,10 +77,11 @@ fn lines<S>(
 
 /// The lines that the library gives.
 fn proved(case: &Case, most: usize) -> String {
-    let start = State::start(&case.settings);
+    let (answer, state) = State::start(&case.settings);
+    let start = (answer.number(), state);
     lines(case, most, start, |state, input, allowance, out| {
         let report = state.read(input, allowance, out);
-        (report.answer, report.read, report.written)
+        (report.answer.number(), report.read, report.written)
     })
 }
 

@@ -7,10 +7,7 @@
 //!                                 this width in 1/3600 inch
 //! ```
 
-use ierbulosc::{
-    dot, records, slot, Record, Settings, State, ALLOWANCE_USED, INPUT_USED, LENGTH_REFUSED,
-    OUTPUT_FULL, ROOM, SETTINGS_REFUSED, STATE_REFUSED,
-};
+use ierbulosc::{dot, records, slot, Answer, Record, Settings, State, ROOM};
 use std::io::Read;
 use std::process::ExitCode;
 
@@ -123,14 +120,14 @@ fn main() -> ExitCode {
 }
 
 /// What an answer says is wrong.
-fn done(answer: u8) -> Result<(), String> {
+fn done(answer: Answer) -> Result<(), String> {
     let problem = match answer {
-        INPUT_USED => return Ok(()),
-        ALLOWANCE_USED => "input is left over: the allowance is used",
-        OUTPUT_FULL => "input is left over: the output is full",
-        SETTINGS_REFUSED => "300 or 203 dots to the inch, paper of 7200 to 28800 units",
-        STATE_REFUSED => "the state is none that the reader left",
-        LENGTH_REFUSED => "the list ends within a record",
+        Answer::Done => return Ok(()),
+        Answer::AllowanceUsed => "input is left over: the allowance is used",
+        Answer::OutputFull => "input is left over: the output is full",
+        Answer::SettingsRefused => "300 or 203 dots to the inch, paper of 7200 to 28800 units",
+        Answer::StateRefused => "the state is none that the reader left",
+        Answer::LengthRefused => "the list ends within a record",
         _ => "an answer that is none of the reader's",
     };
     Err(problem.to_string())

@@ -6,9 +6,7 @@
 //! write [DOTS]     at 300 dots to the inch, or 203
 //! ```
 
-use ierbulosc::{
-    card_room, records, write, Letter, Record, Settings, State, INPUT_USED, ROOM, WRITTEN,
-};
+use ierbulosc::{card_room, records, write, Answer, Letter, Record, Settings, State, ROOM};
 use std::process::ExitCode;
 
 /// The bytes of the card to a call.
@@ -35,7 +33,7 @@ fn main() -> ExitCode {
         resolution,
         ..Settings::default()
     });
-    if (answer, started) != (WRITTEN, INPUT_USED) {
+    if (answer, started) != (Answer::Done, Answer::Done) {
         eprintln!("write: refused");
         return ExitCode::FAILURE;
     }
@@ -43,7 +41,7 @@ fn main() -> ExitCode {
     for piece in card.chunks(PIECE) {
         let mut out = [0; PIECE * ROOM];
         let report = state.read(piece, usize::MAX, &mut out);
-        if report.answer != INPUT_USED {
+        if report.answer != Answer::Done {
             return ExitCode::FAILURE;
         }
         for record in records(&out[..report.written]) {

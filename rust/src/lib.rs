@@ -1,18 +1,19 @@
 //! Reads the ESC/P legacy page language: bytes come in, placed records come
-//! out. [`write`] goes the other way, from letters with places to ESC/P.
+//! out. [`write()`] goes the other way, from letters with places to ESC/P.
 //!
 //! This is a safe cover over the static library libierbulosc.a, whose C
 //! interface is include/escp.h. The library keeps nothing between calls,
-//! allocates nothing and always returns; all it knows is in [`State`].
+//! allocates nothing and always returns; all it knows is in [`State`]. The cover
+//! needs no standard library either.
 //!
 //! ```
-//! use ierbulosc::{records, Record, Settings, State, INPUT_USED, ROOM};
+//! use ierbulosc::{records, Answer, Record, Settings, State, ROOM};
 //!
 //! let (answer, mut state) = State::start(&Settings::default());
-//! assert_eq!(answer, INPUT_USED);
+//! assert_eq!(answer, Answer::Done);
 //! let mut out = [0; 2 * ROOM];
 //! let report = state.read(b"A\n", usize::MAX, &mut out);
-//! assert_eq!((report.answer, report.read), (INPUT_USED, 2));
+//! assert_eq!((report.answer, report.read), (Answer::Done, 2));
 //! let mut records = records(&out[..report.written]);
 //! let letter = records.next();
 //! assert!(matches!(letter, Some(Record::Tx { column: 0, row: 0, byte: b'A', .. })));
@@ -20,6 +21,10 @@
 //! assert_eq!(records.next(), None);
 //! ```
 
+#![no_std]
+
+mod answer;
+mod characters;
 mod geometry;
 pub mod interface;
 mod letters;
@@ -29,6 +34,8 @@ pub mod style;
 
 use interface::{escp_read, escp_slot, escp_start, escp_write, Counts, Part};
 
+pub use answer::Answer;
+pub use characters::character;
 pub use geometry::*;
 pub use letters::*;
 pub use records::*;
@@ -37,32 +44,6 @@ pub use state::*;
 /// The version of cover, header and library.
 pub const VERSION: &str = env!("CARGO_PKG_VERSION");
 
-/// All of the input was read; of a start: it is done.
-pub const INPUT_USED: u8 = 0;
-/// As many bytes as allowed were read, and input is left.
-pub const ALLOWANCE_USED: u8 = 1;
-/// Under [`ROOM`] bytes of output are left, and input and allowance are left.
-pub const OUTPUT_FULL: u8 = 2;
-/// A start whose resolution or width is none that is taken.
-pub const SETTINGS_REFUSED: u8 = 3;
-/// The state is none that the library leaves.
-pub const STATE_REFUSED: u8 = 4;
-
-/// [`slot`]: the record was found, or there is none.
-pub const ANSWERED: u8 = 0;
-/// [`slot`]: the list's length is no multiple of [`RECORD_SIZE`].
-/// Of the C call `escp_write`: of [`LETTER_SIZE`]; the cover cannot pass such.
-pub const LENGTH_REFUSED: u8 = 5;
-
-/// [`write`]: the card is written.
-pub const WRITTEN: u8 = 0;
-/// [`write`]: a letter's byte is not from 20h to 7Eh.
-pub const BYTE_REFUSED: u8 = 8;
-/// [`write`]: a letter's place is none that is taken.
-pub const PLACE_REFUSED: u8 = 9;
-/// [`write`]: the output is shorter than [`card_room`] says.
-pub const ROOM_REFUSED: u8 = 10;
-
 /// The room that must be left in the output for a byte to be read: it writes
 /// at most two records.
 pub const ROOM: usize = 2 * RECORD_SIZE;
@@ -70,9 +51,9 @@ pub const ROOM: usize = 2 * RECORD_SIZE;
 /// What a reading call came back with.
 #[derive(Clone, Copy, PartialEq, Eq, Debug)]
 pub struct Report {
-    /// [`INPUT_USED`], [`ALLOWANCE_USED`], [`OUTPUT_FULL`] or
-    /// [`STATE_REFUSED`].
-    pub answer: u8,
+    /// [`Answer::Done`], [`Answer::AllowanceUsed`], [`Answer::OutputFull`] or
+    /// [`Answer::StateRefused`].
+    pub answer: Answer,
     /// How many bytes of the input were read.
     pub read: usize,
     /// How many bytes of the output were written, a multiple of
@@ -84,30 +65,31 @@ impl State {
     /// Starts a printer with these settings.
     ///
     /// The answer and the state with it:
-    /// - [`INPUT_USED`]: the power-on state of these settings;
-    /// - [`SETTINGS_REFUSED`]: the resolution is neither 300 nor 203, or the
-    ///   width is not from 7,200 to 28,800; the power-on state of
+    /// - [`Answer::Done`]: the power-on state of these settings;
+    /// - [`Answer::SettingsRefused`]: the resolution is neither 300 nor 203, or
+    ///   the width is not from 7,200 to 28,800; the power-on state of
     ///   [`Settings::default`].
-    pub fn start(settings: &Settings) -> (u8, State) {
+    pub fn start(settings: &Settings) -> (Answer, State) {
         let mut state = State::from_registers([0; REGISTERS]);
         // SAFETY: the pointers are to whole structs, the state's to one that
         // no one else holds during the call. Its fields are plain numbers, so
         // that whatever the library writes there is a State again. The library
         // only reads the settings and keeps no pointer.
         let answer = unsafe { escp_start(&mut state, settings) };
-        (answer, state)
+        (Answer::of(answer), state)
     }
 
     /// Reads input into records: at most `allowance` bytes of it, and as long
     /// as [`ROOM`] bytes of output are left. Before each byte it tests for
-    /// [`INPUT_USED`], [`ALLOWANCE_USED`] and [`OUTPUT_FULL`], in this order.
+    /// [`Answer::Done`], [`Answer::AllowanceUsed`] and [`Answer::OutputFull`],
+    /// in this order.
     ///
     /// - On these three answers `self` is the new state; `read` bytes of the
     ///   input were read; `written` bytes were written at the beginning of
     ///   `out`. To go on after the last two, pass the rest of the input.
-    /// - [`STATE_REFUSED`]: `self` is none that the library leaves: a number is
-    ///   not as given for it. This is tested before all else. `self` stays as
-    ///   it was, and both counts are 0.
+    /// - [`Answer::StateRefused`]: `self` is none that the library leaves: a
+    ///   number is not as given for it. This is tested before all else. `self`
+    ///   stays as it was, and both counts are 0.
     ///
     /// What `out` holds past `written` stays as it was. Input may come in
     /// pieces of any length, cut anywhere, even inside a command: the records
@@ -134,7 +116,7 @@ impl State {
             )
         };
         Report {
-            answer,
+            answer: Answer::of(answer),
             read: counts.read,
             written: counts.written,
         }
@@ -154,32 +136,32 @@ impl State {
 ///   several starts joined are one list.
 ///
 /// The answer and the part of the list with it:
-/// - [`ANSWERED`]: the record's [`RECORD_SIZE`] bytes, where they stand in the
+/// - [`Answer::Done`]: the record's [`RECORD_SIZE`] bytes, where they stand in the
 ///   list. The part is empty if there is no such record, as where `from` is
 ///   above `to`.
-/// - [`LENGTH_REFUSED`]: the list's length is no multiple of [`RECORD_SIZE`].
-///   This is tested before all else. The part is empty.
+/// - [`Answer::LengthRefused`]: the list's length is no multiple of
+///   [`RECORD_SIZE`]. This is tested before all else. The part is empty.
 ///
 /// The list may be any bytes. The search begins at the newest record, and ends
 /// where the answer is certain: at the record found, or where the present page
 /// begins.
 ///
 /// ```
-/// use ierbulosc::{records, slot, Record, Settings, State, ANSWERED, ROOM};
+/// use ierbulosc::{records, slot, Answer, Record, Settings, State, ROOM};
 ///
 /// let (_, mut state) = State::start(&Settings::default());
 /// let mut out = [0; 3 * ROOM];
 /// let report = state.read(b"A\nB", usize::MAX, &mut out);
 /// let list = &out[..report.written];
 /// let (answer, part) = slot(list, 0, 29);
-/// assert_eq!(answer, ANSWERED);
+/// assert_eq!(answer, Answer::Done);
 /// let newest = records(part).next();
 /// assert!(matches!(newest, Some(Record::Tx { byte: b'B', row: 50, .. })));
 /// let (answer, part) = slot(list, 30, 59);
-/// assert_eq!(answer, ANSWERED);
+/// assert_eq!(answer, Answer::Done);
 /// assert!(part.is_empty());
 /// ```
-pub fn slot(records: &[u8], from: u16, to: u16) -> (u8, &[u8]) {
+pub fn slot(records: &[u8], from: u16, to: u16) -> (Answer, &[u8]) {
     let mut part = Part {
         offset: 0,
         length: 0,
@@ -191,6 +173,7 @@ pub fn slot(records: &[u8], from: u16, to: u16) -> (u8, &[u8]) {
     let answer = unsafe { escp_slot(records.as_ptr(), records.len(), from, to, &mut part) };
     // The part lies in the list, as is proved; a slice cannot know it.
     let rest = records.get(part.offset..).unwrap_or_default();
+    let answer = Answer::of(answer);
     (answer, rest.get(..part.length).unwrap_or_default())
 }
 
@@ -204,26 +187,27 @@ pub fn slot(records: &[u8], from: u16, to: u16) -> (u8, &[u8]) {
 /// not less than that of the letter before.
 ///
 /// The answer and the bytes written, at the beginning of the output, with it:
-/// - [`WRITTEN`]: the card; without letters ESC @ alone;
-/// - [`BYTE_REFUSED`], [`PLACE_REFUSED`]: of the first letter that cannot be
-///   written, its byte, or else its place; nothing is written;
-/// - [`ROOM_REFUSED`]: the output is shorter than [`card_room`] says, though
-///   fewer bytes may be written. This is tested last. Nothing is written.
+/// - [`Answer::Done`]: the card; without letters ESC @ alone;
+/// - [`Answer::ByteRefused`], [`Answer::PlaceRefused`]: of the first letter
+///   that cannot be written, its byte, or else its place; nothing is written;
+/// - [`Answer::RoomRefused`]: the output is shorter than [`card_room`] says,
+///   though fewer bytes may be written. This is tested last. Nothing is
+///   written.
 ///
 /// The output past what is written stays as it was.
 ///
 /// ```
-/// use ierbulosc::{card_room, write, Letter, PLACE_REFUSED, WRITTEN};
+/// use ierbulosc::{card_room, write, Answer, Letter};
 ///
 /// let mut out = [0; card_room(1)];
 /// let (answer, card) = write(&[Letter::new(b'A', 80, 40)], &mut out);
-/// assert_eq!(answer, WRITTEN);
+/// assert_eq!(answer, Answer::Done);
 /// assert_eq!(card, b"\x1B@\x1BJ\x02\x1B$\x01\x00\x1B\\\x01\x00A");
 /// let (answer, card) = write(&[Letter::new(b'A', 81, 40)], &mut out);
-/// assert_eq!(answer, PLACE_REFUSED);
+/// assert_eq!(answer, Answer::PlaceRefused);
 /// assert!(card.is_empty());
 /// ```
-pub fn write<'a>(letters: &[Letter], out: &'a mut [u8]) -> (u8, &'a [u8]) {
+pub fn write<'a>(letters: &[Letter], out: &'a mut [u8]) -> (Answer, &'a [u8]) {
     let mut written = 0;
     // SAFETY: no pointer is null, even of an empty slice, and each is good for
     // its length: letters are bytes, LETTER_SIZE each, without others between.
@@ -240,5 +224,5 @@ pub fn write<'a>(letters: &[Letter], out: &'a mut [u8]) -> (u8, &'a [u8]) {
         )
     };
     // They lie in the output, as is proved; a slice cannot know it.
-    (answer, out.get(..written).unwrap_or_default())
+    (Answer::of(answer), out.get(..written).unwrap_or_default())
 }

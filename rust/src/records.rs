@@ -1,7 +1,7 @@
 //! The records that a reading call writes, by name.
 
-use std::iter::FusedIterator;
-use std::slice::ChunksExact;
+use core::iter::FusedIterator;
+use core::slice::ChunksExact;
 
 /// The bytes of a record: mark (2 bytes), column (2), row (2), byte, font,
 /// style (2), country, zero, advance (2). Numbers of two bytes have the low

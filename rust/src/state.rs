@@ -1,7 +1,7 @@
 //! The settings of a start and the state of the printer, field by field as in
 //! the C interface.
 
-use std::mem::transmute;
+use core::mem::transmute;
 
 /// The numbers of a state.
 pub const REGISTERS: usize = 243;

@@ -3,7 +3,7 @@
 //! inch, reads back to the very picture that Ghostscript draws of it as a
 //! bitmap.
 
-use ierbulosc::{dot_below, records, Record, Settings, State, INPUT_USED, NEW_TOP, NOTHING, ROOM};
+use ierbulosc::{dot_below, records, Answer, Record, Settings, State, NEW_TOP, NOTHING, ROOM};
 
 const SENT: &[u8] = include_bytes!("../../cases/gate.prn");
 const DRAWN: &[u8] = include_bytes!("../../cases/gate.pbm");
@@ -95,12 +95,12 @@ fn read(resolution: u32, piece: usize) -> Vec<Record> {
         resolution,
         ..Settings::default()
     });
-    assert_eq!(answer, INPUT_USED);
+    assert_eq!(answer, Answer::Done);
     let mut all = Vec::new();
     let mut out = vec![0; (piece + 1) * ROOM];
     for input in SENT.chunks(piece) {
         let report = state.read(input, usize::MAX, &mut out);
-        assert_eq!((report.answer, report.read), (INPUT_USED, input.len()));
+        assert_eq!((report.answer, report.read), (Answer::Done, input.len()));
         all.extend(records(&out[..report.written]));
     }
     assert_eq!(state.kind, NOTHING);

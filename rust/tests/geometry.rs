@@ -1,7 +1,7 @@
 //! What the cover and the header say of a record's style and place holds of
 //! what the library writes.
 
-use ierbulosc::{dot, records, style, Record, Settings, State, INPUT_USED, ROOM};
+use ierbulosc::{dot, records, style, Answer, Record, Settings, State, ROOM};
 
 /// The records of an input, and the state after it.
 fn read(resolution: u32, input: &[u8]) -> (Vec<Record>, State) {
@@ -9,10 +9,10 @@ fn read(resolution: u32, input: &[u8]) -> (Vec<Record>, State) {
         resolution,
         ..Settings::default()
     });
-    assert_eq!(answer, INPUT_USED);
+    assert_eq!(answer, Answer::Done);
     let mut out = vec![0; (input.len() + 1) * ROOM];
     let report = state.read(input, usize::MAX, &mut out);
-    assert_eq!((report.answer, report.read), (INPUT_USED, input.len()));
+    assert_eq!((report.answer, report.read), (Answer::Done, input.len()));
     (records(&out[..report.written]).collect(), state)
 }
 

@@ -2,7 +2,7 @@
 //! structs field by field, registers by name and place, functions parameter
 //! by parameter, constants.
 
-use ierbulosc::{Letter, Record, LETTER_SIZE, RECORD_SIZE};
+use ierbulosc::{Answer, Letter, Record, LETTER_SIZE, RECORD_SIZE};
 
 const HEADER: &str = include_str!("../../include/escp.h");
 const FUNCTIONS: &str = include_str!("../src/interface.rs");
@@ -351,6 +351,36 @@ fn c_constant(name: &str) -> usize {
     value.split('*').map(factor).product()
 }
 
+/// The names of answers in C, and what they are in Rust.
+fn answers() -> [(&'static str, Answer); 11] {
+    [
+        ("INPUT_USED", Answer::Done),
+        ("ALLOWANCE_USED", Answer::AllowanceUsed),
+        ("OUTPUT_FULL", Answer::OutputFull),
+        ("SETTINGS_REFUSED", Answer::SettingsRefused),
+        ("STATE_REFUSED", Answer::StateRefused),
+        ("ANSWERED", Answer::Done),
+        ("LENGTH_REFUSED", Answer::LengthRefused),
+        ("WRITTEN", Answer::Done),
+        ("BYTE_REFUSED", Answer::ByteRefused),
+        ("PLACE_REFUSED", Answer::PlaceRefused),
+        ("ROOM_REFUSED", Answer::RoomRefused),
+    ]
+}
+
+#[test]
+fn answers_are_those_of_the_header() {
+    for (name, answer) in answers() {
+        assert_eq!(c_constant(name), answer.number().into(), "{name}");
+    }
+    let named: Vec<Answer> = answers().into_iter().map(|(_, answer)| answer).collect();
+    for number in 0..=u8::MAX {
+        let answer = Answer::of(number);
+        assert_eq!(answer.number(), number);
+        assert_eq!(answer == Answer::Other(number), !named.contains(&answer));
+    }
+}
+
 /// The names of the style bits and of an image's geometry.
 fn names() -> [(&'static str, usize); 16] {
     use ierbulosc::{style, DOT_OF_ONE, DOT_OF_THREE};
@@ -400,18 +430,7 @@ fn mark(letters: &[u8; 2]) -> usize {
 
 #[test]
 fn constants_are_those_of_the_header() {
-    let constants: [(&str, usize); 41] = [
-        ("INPUT_USED", ierbulosc::INPUT_USED.into()),
-        ("ALLOWANCE_USED", ierbulosc::ALLOWANCE_USED.into()),
-        ("OUTPUT_FULL", ierbulosc::OUTPUT_FULL.into()),
-        ("SETTINGS_REFUSED", ierbulosc::SETTINGS_REFUSED.into()),
-        ("STATE_REFUSED", ierbulosc::STATE_REFUSED.into()),
-        ("ANSWERED", ierbulosc::ANSWERED.into()),
-        ("LENGTH_REFUSED", ierbulosc::LENGTH_REFUSED.into()),
-        ("WRITTEN", ierbulosc::WRITTEN.into()),
-        ("BYTE_REFUSED", ierbulosc::BYTE_REFUSED.into()),
-        ("PLACE_REFUSED", ierbulosc::PLACE_REFUSED.into()),
-        ("ROOM_REFUSED", ierbulosc::ROOM_REFUSED.into()),
+    let constants: [(&str, usize); 30] = [
         ("LETTER_SIZE", ierbulosc::LETTER_SIZE),
         ("CARD_BEGIN", ierbulosc::CARD_BEGIN),
         ("LETTER_MOST", ierbulosc::LETTER_MOST),
@@ -446,7 +465,8 @@ fn constants_are_those_of_the_header() {
     for (name, number) in constants {
         assert_eq!(c_constant(name), number, "{name}");
     }
-    assert_eq!(c_constants().len(), constants.len() + names().len());
+    let others = names().len() + answers().len();
+    assert_eq!(c_constants().len(), constants.len() + others);
 }
 
 /// The number that the header's function fills a field with, from these bytes:

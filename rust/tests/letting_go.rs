@@ -1,7 +1,7 @@
 //! What may be let go of a list (include/escp.h): what stands under a slot stays
 //! the same, then and when more is joined to it.
 
-use ierbulosc::{slot, ANSWERED, NEW_TOP, RECORD_SIZE};
+use ierbulosc::{slot, Answer, NEW_TOP, RECORD_SIZE};
 
 /// Columns are from 0 to here.
 const MOST: u16 = 5;
@@ -101,7 +101,7 @@ fn standing(list: &[Bytes]) -> Vec<Vec<u8>> {
     let ranges = (0..=MOST).flat_map(|from| (from..=MOST).map(move |to| (from, to)));
     let asked = ranges.map(|(from, to)| slot(&list, from, to));
     let checked = asked.map(|(answer, part)| {
-        assert_eq!(answer, ANSWERED);
+        assert_eq!(answer, Answer::Done);
         part.to_vec()
     });
     checked.collect()

@@ -1,9 +1,9 @@
 //! The library through the safe cover.
 
 use ierbulosc::{
-    records, Record, Settings, State, Stops, ALLOWANCE_USED, COLUMNS, FIRST_ARGUMENT, IMAGE_DATA,
-    INPUT_USED, NEW_TOP, NOTHING, NOT_ALLOWED, NO_FIT, OUTPUT_FULL, RECORD_SIZE, REGISTERS, ROOM,
-    SECOND_ARGUMENT, SETTINGS_REFUSED, STATE_REFUSED, STOP_LIST, THIRD_ARGUMENT, UNLISTED,
+    records, Answer, Record, Settings, State, Stops, COLUMNS, FIRST_ARGUMENT, IMAGE_DATA, NEW_TOP,
+    NOTHING, NOT_ALLOWED, NO_FIT, RECORD_SIZE, REGISTERS, ROOM, SECOND_ARGUMENT, STOP_LIST,
+    THIRD_ARGUMENT, UNLISTED,
 };
 
 const FILL: u8 = 0xE5;
@@ -24,13 +24,13 @@ fn starts() {
     };
     for auto_feed in [1, 2, 256, 1 << 31, u32::MAX] {
         let (answer, state) = start(203, auto_feed);
-        assert_eq!(answer, INPUT_USED);
+        assert_eq!(answer, Answer::Done);
         assert_eq!((state.dots_across, state.dots_down), (203, 200));
         assert_eq!(state.auto_feed, 1);
     }
-    assert_eq!(start(300, 0), (INPUT_USED, power_on()));
+    assert_eq!(start(300, 0), (Answer::Done, power_on()));
     for refused in [202, 204, 299, 301, 65_536 + 300] {
-        assert_eq!(start(refused, 1), (SETTINGS_REFUSED, power_on()));
+        assert_eq!(start(refused, 1), (Answer::SettingsRefused, power_on()));
     }
 }
 
@@ -47,16 +47,16 @@ fn widths() {
     };
     for width in [7_200, 7_201, 7_559, 28_799, 28_800] {
         let (answer, mut state) = start(203, width);
-        assert_eq!(answer, INPUT_USED);
+        assert_eq!(answer, Answer::Done);
         assert_eq!((state.paper_width, state.right), (width, width));
         let before = state;
         let report = state.read(b"\x1BQ\x05\x1B@", 5, &mut [0; 3 * ROOM]);
-        assert_eq!((report.answer, state), (INPUT_USED, before));
+        assert_eq!((report.answer, state), (Answer::Done, before));
     }
     for refused in [0, 1, 7_199, 28_801, 65_536 + 7_200, u32::MAX] {
-        assert_eq!(start(203, refused), (SETTINGS_REFUSED, power_on()));
+        assert_eq!(start(203, refused), (Answer::SettingsRefused, power_on()));
     }
-    assert_eq!(start(204, 7_200), (SETTINGS_REFUSED, power_on()));
+    assert_eq!(start(204, 7_200), (Answer::SettingsRefused, power_on()));
 }
 
 /// Document 01, 'Power-on', number by number.
@@ -79,7 +79,7 @@ fn records_byte_for_byte() {
     let mut out = [FILL; 2 * ROOM];
     let report = state.read(b"\x41\x0A", usize::MAX, &mut out);
     let came = (report.answer, report.read, report.written);
-    assert_eq!(came, (INPUT_USED, 2, 2 * RECORD_SIZE));
+    assert_eq!(came, (Answer::Done, 2, 2 * RECORD_SIZE));
     let (written, rest) = out.split_at(report.written);
     let hex: String = written.iter().map(|byte| format!("{byte:02x}")).collect();
     let expected = "54580000000041000000000068014c4e000032000000000000000000";
@@ -94,7 +94,7 @@ fn records_by_name() {
     let mut out = [FILL; 30 * ROOM];
     let input = b"\x1BE\x1Bk\x07\x1BR\x0D\x0A\x0EB\x1Bl\x00\x1BK\x01\x00\x55\x1BA\x56\x01\x1B@";
     let report = state.read(input, usize::MAX, &mut out);
-    assert_eq!((report.answer, report.read), (INPUT_USED, input.len()));
+    assert_eq!((report.answer, report.read), (Answer::Done, input.len()));
     let came: Vec<Record> = records(&out[..report.written]).collect();
     let letter = Record::Tx {
         column: 0,
@@ -146,12 +146,15 @@ fn answers_in_order() {
         let report = state.read(input, allowance, &mut vec![FILL; room]);
         (report.answer, report.read, report.written)
     };
-    assert_eq!(answer(b"", 0, 0), (INPUT_USED, 0, 0));
-    assert_eq!(answer(b"A", 0, 0), (ALLOWANCE_USED, 0, 0));
-    assert_eq!(answer(b"A", 1, ROOM - 1), (OUTPUT_FULL, 0, 0));
-    assert_eq!(answer(b"A", 1, ROOM), (INPUT_USED, 1, RECORD_SIZE));
-    assert_eq!(answer(b"AB", 1, ROOM), (ALLOWANCE_USED, 1, RECORD_SIZE));
-    assert_eq!(answer(b"AB", 2, ROOM), (OUTPUT_FULL, 1, RECORD_SIZE));
+    assert_eq!(answer(b"", 0, 0), (Answer::Done, 0, 0));
+    assert_eq!(answer(b"A", 0, 0), (Answer::AllowanceUsed, 0, 0));
+    assert_eq!(answer(b"A", 1, ROOM - 1), (Answer::OutputFull, 0, 0));
+    assert_eq!(answer(b"A", 1, ROOM), (Answer::Done, 1, RECORD_SIZE));
+    assert_eq!(
+        answer(b"AB", 1, ROOM),
+        (Answer::AllowanceUsed, 1, RECORD_SIZE)
+    );
+    assert_eq!(answer(b"AB", 2, ROOM), (Answer::OutputFull, 1, RECORD_SIZE));
 }
 
 /// Each register in turn with a number that no state has there.
@@ -165,7 +168,7 @@ fn a_refused_state_stays() {
         let mut out = [FILL; ROOM];
         let report = state.read(b"A", 1, &mut out);
         let came = (report.answer, report.read, report.written);
-        assert_eq!(came, (STATE_REFUSED, 0, 0), "{at}");
+        assert_eq!(came, (Answer::StateRefused, 0, 0), "{at}");
         assert_eq!((state.registers(), out), (registers, [FILL; ROOM]));
     }
 }
@@ -175,7 +178,7 @@ fn stops_are_gathered_then_in_force() {
     let mut state = power_on();
     let mut read = |input: &[u8]| {
         let report = state.read(input, usize::MAX, &mut [FILL; 9 * ROOM]);
-        assert_eq!((report.answer, report.read), (INPUT_USED, input.len()));
+        assert_eq!((report.answer, report.read), (Answer::Done, input.len()));
         state
     };
     let state = read(b"\x1BD\x05\x0A");
@@ -205,7 +208,7 @@ fn esc_i_is_waited_for_and_done() {
     let mut state = power_on();
     let mut read = |input: &[u8]| {
         let report = state.read(input, usize::MAX, &mut [FILL; 9 * ROOM]);
-        assert_eq!((report.answer, report.read), (INPUT_USED, input.len()));
+        assert_eq!((report.answer, report.read), (Answer::Done, input.len()));
         assert_eq!(report.written, 0);
         state
     };
@@ -218,7 +221,7 @@ fn esc_i_is_waited_for_and_done() {
     for argument in (0..=256).filter(|&argument| argument != b'a'.into()) {
         let mut other = State { argument, ..state };
         let report = other.read(b"", 0, &mut []);
-        assert_eq!(report.answer, STATE_REFUSED, "{argument}");
+        assert_eq!(report.answer, Answer::StateRefused, "{argument}");
     }
 }
 
@@ -264,7 +267,7 @@ fn waits_for(numbers: [u32; 6]) -> State {
 
 /// Whether a state is one of the reader's.
 fn accepted(mut state: State) -> bool {
-    state.read(b"", 0, &mut []).answer == INPUT_USED
+    state.read(b"", 0, &mut []).answer == Answer::Done
 }
 
 /// ESC * from byte to byte.
@@ -273,7 +276,7 @@ fn an_image_is_waited_for() {
     let mut state = power_on();
     let mut read = |byte: u8| {
         let report = state.read(&[byte], 1, &mut [FILL; ROOM]);
-        assert_eq!((report.answer, report.read), (INPUT_USED, 1));
+        assert_eq!((report.answer, report.read), (Answer::Done, 1));
         let across = state.across;
         let mut back = waits_for(state.registers()[..6].try_into().unwrap());
         back.across = across;
@@ -300,7 +303,7 @@ fn other_escapes_of_images_are_modes() {
             let mut state = power_on();
             let mut out = [FILL; 9 * ROOM];
             let report = state.read(input, usize::MAX, &mut out);
-            assert_eq!((report.answer, report.read), (INPUT_USED, input.len()));
+            assert_eq!((report.answer, report.read), (Answer::Done, input.len()));
             (state, out)
         };
         let begun = after(&[0x1B, code, 2, 0, 7]);
@@ -369,7 +372,7 @@ fn image_bytes_by_name() {
     let mut out = [FILL; 30 * ROOM];
     let input = b"\x1B$\xDF\x01\x1B*\x20\x02\x00\x80\x00\x01\x40\x1B\x02\x1B*\x48";
     let report = state.read(input, usize::MAX, &mut out);
-    assert_eq!((report.answer, report.read), (INPUT_USED, input.len()));
+    assert_eq!((report.answer, report.read), (Answer::Done, input.len()));
     let came: Vec<Record> = records(&out[..report.written]).collect();
     let placed = |byte, part| Record::Im {
         column: 2_395,

@@ -1,6 +1,6 @@
 //! What stands under a slot, through the safe cover.
 
-use ierbulosc::{slot, Settings, State, ANSWERED, INPUT_USED, LENGTH_REFUSED, RECORD_SIZE, ROOM};
+use ierbulosc::{slot, Answer, Settings, State, RECORD_SIZE, ROOM};
 
 /// The records of an input from power-on at 300 dots, where a letter of 10 cpi
 /// is 30 dots wide.
@@ -8,7 +8,7 @@ fn read(input: &[u8]) -> Vec<u8> {
     let (_, mut state) = State::start(&Settings::default());
     let mut out = vec![0; (input.len() + 1) * ROOM];
     let report = state.read(input, usize::MAX, &mut out);
-    assert_eq!((report.answer, report.read), (INPUT_USED, input.len()));
+    assert_eq!((report.answer, report.read), (Answer::Done, input.len()));
     out.truncate(report.written);
     out
 }
@@ -17,7 +17,7 @@ fn read(input: &[u8]) -> Vec<u8> {
 /// and no copy; none if the part is empty.
 fn place(list: &[u8], from: u16, to: u16) -> Option<usize> {
     let (answer, part) = slot(list, from, to);
-    assert_eq!(answer, ANSWERED);
+    assert_eq!(answer, Answer::Done);
     if part.is_empty() {
         return None;
     }
@@ -82,7 +82,7 @@ fn nothing_from_a_column_to_one_before_it() {
     let list = read(b"AB");
     assert_eq!(place(&list, 30, 29), None);
     assert_eq!(place(&list, u16::MAX, 0), None);
-    assert_eq!(slot(&[], 0, u16::MAX), (ANSWERED, &[][..]));
+    assert_eq!(slot(&[], 0, u16::MAX), (Answer::Done, &[][..]));
 }
 
 #[test]
@@ -91,7 +91,7 @@ fn a_length_is_refused_before_all_else() {
     for length in (1..list.len()).filter(|length| length % RECORD_SIZE > 0) {
         for (from, to) in [(0, u16::MAX), (1, 0)] {
             let (answer, part) = slot(&list[..length], from, to);
-            assert_eq!((answer, part), (LENGTH_REFUSED, &[][..]), "{length}");
+            assert_eq!((answer, part), (Answer::LengthRefused, &[][..]), "{length}");
         }
     }
 }

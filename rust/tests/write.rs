@@ -1,8 +1,7 @@
 //! Writing a card, through the safe cover, and reading it back.
 
 use ierbulosc::{
-    card_room, records, write, Letter, Record, Settings, State, BYTE_REFUSED, INPUT_USED, NEW_TOP,
-    NOTHING, PLACE_REFUSED, ROOM, ROOM_REFUSED, WRITTEN,
+    card_room, records, write, Answer, Letter, Record, Settings, State, NEW_TOP, NOTHING, ROOM,
 };
 
 const FILL: u8 = 0xE5;
@@ -12,14 +11,14 @@ const FILL: u8 = 0xE5;
 fn card(letters: &[Letter]) -> Vec<u8> {
     let mut out = vec![FILL; card_room(letters.len())];
     let (answer, card) = write(letters, &mut out);
-    assert_eq!(answer, WRITTEN);
+    assert_eq!(answer, Answer::Done);
     let card = card.to_vec();
     assert!(out[card.len()..].iter().all(|&byte| byte == FILL));
     card
 }
 
 /// The answer to letters that are refused, with nothing written.
-fn refusal(letters: &[Letter], room: usize) -> u8 {
+fn refusal(letters: &[Letter], room: usize) -> Answer {
     let mut out = vec![FILL; room];
     let (answer, card) = write(letters, &mut out);
     assert!(card.is_empty());
@@ -37,7 +36,7 @@ fn read(card: &[u8], resolution: u32, piece: usize) -> Vec<Record> {
     for piece in card.chunks(piece) {
         let mut out = vec![0; piece.len() * ROOM];
         let report = state.read(piece, usize::MAX, &mut out);
-        assert_eq!(report.answer, INPUT_USED);
+        assert_eq!(report.answer, Answer::Done);
         list.extend(records(&out[..report.written]));
     }
     assert_eq!(state.kind, NOTHING);
@@ -61,8 +60,8 @@ fn text(letter: Letter, dots_across: u32, dots_down: u32) -> Record {
 #[test]
 fn it_begins_with_esc_at() {
     assert_eq!(card(&[]), b"\x1B@");
-    assert_eq!(refusal(&[], 1), ROOM_REFUSED);
-    assert_eq!(refusal(&[], 0), ROOM_REFUSED);
+    assert_eq!(refusal(&[], 1), Answer::RoomRefused);
+    assert_eq!(refusal(&[], 0), Answer::RoomRefused);
 }
 
 /// 1,979 steps of 20 down are seven times 255, and 194; 28,420 across is 473
@@ -110,17 +109,25 @@ fn refusals_at_each_limit() {
     let room = card_room(2);
     let one = |byte, across, down| refusal(&[Letter::new(byte, across, down)], room);
     for byte in [0, 0x1B, 0x1F, 0x7F, 0x80, 0xFF] {
-        assert_eq!(one(byte, 0, 0), BYTE_REFUSED);
-        assert_eq!(one(byte, 1, 0), BYTE_REFUSED);
+        assert_eq!(one(byte, 0, 0), Answer::ByteRefused);
+        assert_eq!(one(byte, 1, 0), Answer::ByteRefused);
     }
     for (across, down) in [(1, 0), (19, 0), (28_460, 0), (28_441, 0), (65_535, 0)] {
-        assert_eq!(one(b'A', across, down), PLACE_REFUSED, "{across} {down}");
+        assert_eq!(
+            one(b'A', across, down),
+            Answer::PlaceRefused,
+            "{across} {down}"
+        );
     }
     for (across, down) in [(0, 1), (0, 39_600), (0, 39_581), (0, 65_535)] {
-        assert_eq!(one(b'A', across, down), PLACE_REFUSED, "{across} {down}");
+        assert_eq!(
+            one(b'A', across, down),
+            Answer::PlaceRefused,
+            "{across} {down}"
+        );
     }
     let [above, below] = [0, 20].map(|down| Letter::new(b'A', 0, down));
-    assert_eq!(refusal(&[below, above], room), PLACE_REFUSED);
+    assert_eq!(refusal(&[below, above], room), Answer::PlaceRefused);
     card(&[above, below]);
     card(&[below, below]);
 }
@@ -129,8 +136,20 @@ fn refusals_at_each_limit() {
 fn the_first_bad_letter_decides_and_the_room_is_last() {
     let [good, bad_byte, bad_place] =
         [(b'A', 0), (0x7F, 0), (b'A', 1)].map(|(byte, across)| Letter::new(byte, across, 0));
-    assert_eq!(refusal(&[good, bad_place, bad_byte], 0), PLACE_REFUSED);
-    assert_eq!(refusal(&[good, bad_byte, bad_place], 0), BYTE_REFUSED);
-    assert_eq!(refusal(&[good, good], card_room(2) - 1), ROOM_REFUSED);
-    assert_eq!(refusal(&[good, bad_byte], card_room(2) - 1), BYTE_REFUSED);
+    assert_eq!(
+        refusal(&[good, bad_place, bad_byte], 0),
+        Answer::PlaceRefused
+    );
+    assert_eq!(
+        refusal(&[good, bad_byte, bad_place], 0),
+        Answer::ByteRefused
+    );
+    assert_eq!(
+        refusal(&[good, good], card_room(2) - 1),
+        Answer::RoomRefused
+    );
+    assert_eq!(
+        refusal(&[good, bad_byte], card_room(2) - 1),
+        Answer::ByteRefused
+    );
 }

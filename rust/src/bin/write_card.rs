@@ -1,7 +1,7 @@
 //! Writes a card as ESC/P from lines of text with places; see
 //! `write_card --help`.
 
-use ierbulosc::{card_room, write, Letter, BYTE_REFUSED, WRITTEN};
+use ierbulosc::{card_room, write, Answer, Letter};
 use std::ffi::OsString;
 use std::io::{self, ErrorKind, Read, Write};
 use std::process::ExitCode;
@@ -131,7 +131,7 @@ fn card(text: &[u8]) -> Result<Vec<u8>, String> {
     }
     let mut room = vec![0; card_room(letters.len())];
     let (answer, card) = write(&letters, &mut room);
-    if answer == WRITTEN {
+    if answer == Answer::Done {
         return Ok(card.to_vec());
     }
     let at = first_refused(&letters);
@@ -206,7 +206,7 @@ fn first_refused(letters: &[Letter]) -> usize {
     while bad - good > 1 {
         let middle = good + (bad - good) / 2;
         match write(&letters[..middle], &mut room).0 {
-            WRITTEN => good = middle,
+            Answer::Done => good = middle,
             _ => bad = middle,
         }
     }
@@ -214,10 +214,10 @@ fn first_refused(letters: &[Letter]) -> usize {
 }
 
 /// Why a letter is refused, in words.
-fn why(answer: u8, letters: &[Letter], at: usize) -> String {
+fn why(answer: Answer, letters: &[Letter], at: usize) -> String {
     let letter = letters[at];
     let (byte, across, down) = (letter.byte(), letter.across(), letter.down());
-    if answer == BYTE_REFUSED {
+    if answer == Answer::ByteRefused {
         return format!("byte {byte:02X}h is not from 20h to 7Eh");
     }
     let before = at.checked_sub(1).map_or(0, |at| letters[at].down());

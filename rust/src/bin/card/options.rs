@@ -1,6 +1,6 @@
 //! The words of the command line.
 
-use ierbulosc::{Settings, State, INPUT_USED};
+use ierbulosc::{Answer, Settings, State};
 use std::ffi::{OsStr, OsString};
 use std::os::unix::ffi::OsStrExt;
 
@@ -189,7 +189,7 @@ fn whole(options: &Options) -> Result<(), String> {
     if options.follow && options.svg.is_some() {
         return Err("--follow draws on the screen, and takes no --svg".into());
     }
-    let start = |settings: &Settings| State::start(settings).0 == INPUT_USED;
+    let start = |settings: &Settings| State::start(settings).0 == Answer::Done;
     let plain = Settings::default();
     let resolution = settings.resolution;
     if !start(&Settings {
