@@ -24,7 +24,7 @@ shows each page: letters at their places, images as dots.
 A slot goes up to the next one, the last to the edge of the paper. What stands there
 is what the newest line there has; a page that was turned is gone. Text that begins
 before the slot or runs past it is whole, and marked.
-A serial line is set raw before it is read: stty -F /dev/ttyS0 9600 raw -echo
+A serial line is set raw before it is read: stty -F DEVICE 9600 raw -echo
 A FILE of - is standard input; after -- every word is a FILE.
 Styles are shown on a terminal, unless NO_COLOR is set.
 Exit status: 0; 1 where reading or writing failed; 2 for bad usage.
