@@ -2,13 +2,9 @@
 //! to a cell of the text.
 
 use crate::page::Page;
-use ierbulosc::{Record, State};
+use ierbulosc::{dot_below, Record, State};
 use std::ops::Range;
 
-/// The heights in units of the dots of an image byte: where a column has one,
-/// and where it has three.
-pub const DOT_OF_ONE: u32 = 60;
-pub const DOT_OF_THREE: u32 = 20;
 /// A braille dot's height in units: a quarter of a sixth of an inch.
 const QUARTER: u64 = 150;
 
@@ -18,10 +14,8 @@ pub struct Dots(Vec<Vec<u8>>);
 /// The dots of an image byte down: how far below its row it begins, in units,
 /// and the height of each.
 pub fn down(part: u8) -> (u32, u32) {
-    match part {
-        0 => (0, DOT_OF_ONE),
-        _ => (u32::from(part - 1) * 8 * DOT_OF_THREE, DOT_OF_THREE),
-    }
+    let top = dot_below(part, 0);
+    (top, dot_below(part, 1) - top)
 }
 
 /// Where rows of the page lie in the text: by sixths of an inch from the line

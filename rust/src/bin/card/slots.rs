@@ -50,7 +50,7 @@ fn begins(state: &State, slots: &Slots) -> Vec<u16> {
 
 /// The dot column of a place across.
 fn dot(units: u32, state: &State) -> u16 {
-    let dot = (units * state.dots_across + 1_800) / 3_600;
+    let dot = ierbulosc::dot(units, state.dots_across);
     u16::try_from(dot).unwrap_or(u16::MAX)
 }
 
