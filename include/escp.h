@@ -347,8 +347,8 @@ static inline void escp_fill_record(escp_record *record, const uint8_t *bytes)
  * Of an image byte the highest bit, 80h, is on top. A bit that is set is a dot, as wide as its column: `advance` units.
  * A column of one byte (font 0) has 8 dots, ESCP_DOT_OF_ONE units apart down; one of three (font 1, 2 and 3, from the
  * top) has 24, ESCP_DOT_OF_THREE units apart. All three of its bytes have the column's place and row. The first dot
- * begins at the row, and either kind is 480 units high. (Document 002 draws the columns of three bytes so. Those of one
- * it does not draw; they are taken to fill the same height, that of document 000's line buffer, 48/360 inch.)
+ * begins at the row, and either kind is 480 units high. (Document 002 has columns of three bytes so. For those of one it
+ * has no number; they are taken to fill the same height, that of document 000's line buffer, 48/360 inch.)
  */
 
 /* How far apart the dots of an image byte lie down, in units: where a column has one byte, and where it has three. */
