@@ -78,6 +78,11 @@ fn run(words: &[&str], input: &[u8]) -> Output {
 const CROWDED: &str =
     "card: letters stand closer than the text's cells, words are moved or cut; see --cpi\n";
 
+/// What it says where the slots named are not the card's.
+const OUT_OF_STEP: &str = "card: the card is out of step with --slots; --slot-stops goes by its \
+                           tab stops, 10,20@12 names columns of 12 to the inch, 0.833in or 3000u \
+                           a place\n";
+
 /// What it prints, with this on standard error.
 fn prints_and_says(words: &[&str], input: &[u8], said: &str) -> String {
     let output = run(words, input);
@@ -257,7 +262,7 @@ fn letters_set_one_by_one() {
     input.extend((10..).zip(b"RELEASED").flat_map(set));
     assert_eq!(prints(&[], &input), "          RELEASED\n");
     assert_eq!(
-        prints(&["--slots", "10"], &input),
+        prints(&["--slots", "1in"], &input),
         slot_lines(&["RELEASED"])
     );
 }
@@ -381,19 +386,24 @@ fn slots_in_which_released_moves() {
     }
 }
 
-/// Asked for slots at the columns 10 and 20.
+/// Asked for slots at the columns 10 and 20; the last word says whether the card is
+/// out of step with them.
 #[test]
 fn slots_one_by_one() {
     let none = "(nothing)";
-    let cases: [(&[u8], [&str; 2]); 29] = [
-        (b"", [none, none]),
+    let cases: [(&[u8], [&str; 2], bool); 34] = [
+        (b"", [none, none], false),
         // The columns 9, 10, 19 and 20.
-        (b"         X", [none, none]),
-        (b"          X", ["X", none]),
-        (b"                   X", ["X", none]),
-        (b"                    X", [none, "X"]),
-        // Two words, letters apart, and letters that came in another order.
-        (b"\x1B$\x3C\x00NOT FREE", ["NOT FREE", none]),
+        (b"         X", [none, none], false),
+        (b"          X", ["X", none], false),
+        (
+            b"                   X",
+            ["X (begins after the first column)", none],
+            true,
+        ),
+        (b"                    X", [none, "X"], false),
+        // Two words.
+        (b"\x1B$\x3C\x00NOT FREE", ["NOT FREE", none], false),
         // Text of which a part lies in a slot is whole in it, and marked.
         (
             b"\x1B$\x3C\x00NOT RELEASED",
@@ -401,14 +411,17 @@ fn slots_one_by_one() {
                 "NOT RELEASED (runs past the slot)",
                 "NOT RELEASED (begins before the slot)",
             ],
+            false,
         ),
         (
             b"        UNRELEASED",
             ["UNRELEASED (begins before the slot)", none],
+            false,
         ),
         (
             b"      SO UNRELEASED",
             ["SO UNRELEASED (begins before the slot)", none],
+            false,
         ),
         (
             b"        NOT RELEASED-",
@@ -416,87 +429,266 @@ fn slots_one_by_one() {
                 "NOT RELEASED- (begins before the slot, runs past the slot)",
                 "NOT RELEASED- (begins before the slot)",
             ],
+            false,
         ),
         (
             b"               LOCKED-OUT-NOW",
             [
-                "LOCKED-OUT-NOW (runs past the slot)",
+                "LOCKED-OUT-NOW (begins after the first column, runs past the slot)",
                 "LOCKED-OUT-NOW (begins before the slot)",
             ],
+            true,
         ),
         // So it is where a newer line has something beside the slot.
         (
             b"                  UNRELEASED\r\n\x1B$\x3C\x00HELD      ",
             ["HELD", "UNRELEASED (begins before the slot)"],
+            false,
         ),
-        // A word at the slot's first column is its own, and so is one behind a
-        // gap; but not one to which text from within another slot leads.
+        // Words one printed blank apart are one text, also where the second stands
+        // at a slot's first column. One that comes there by a tab is the slot's own,
+        // but not if text from within another slot leads to it.
         (
             b"\x1B$\x60\x00NOT RELEASED",
             [
-                "NOT RELEASED (runs past the slot)",
+                "NOT RELEASED (begins after the first column, runs past the slot)",
                 "NOT RELEASED (begins before the slot)",
             ],
+            true,
         ),
-        (b"          DOOR SHUT RELEASED", ["DOOR SHUT", "RELEASED"]),
         (
-            b"    STATE INHIBITED RELEASED",
-            ["INHIBITED (follows other text)", "RELEASED"],
+            b"          DOOR SHUT RELEASED",
+            [
+                "DOOR SHUT RELEASED (runs past the slot)",
+                "DOOR SHUT RELEASED (begins before the slot)",
+            ],
+            false,
+        ),
+        (
+            b"\x1BD\x0A\x14\x00\tDOOR SHUT\tRELEASED",
+            ["DOOR SHUT", "RELEASED"],
+            false,
+        ),
+        (
+            b"\x1B$\x60\x00NOT\x1B$\x78\x00RELEASED",
+            [
+                "NOT RELEASED (begins after the first column, runs past the slot, has a gap)",
+                "NOT RELEASED (begins before the slot, has a gap)",
+            ],
+            true,
         ),
         (
             b"GATE1 NOT RELEASED",
-            ["RELEASED (follows other text)", none],
+            ["GATE1 NOT RELEASED (begins before the slot)", none],
+            false,
+        ),
+        (
+            b"\x1BD\x0A\x14\x00STATE NOT\tFREE\tHELD",
+            ["FREE (follows other text)", "HELD"],
+            false,
         ),
         // A blank between them may be wider than the letters.
         (
-            b"\x1B$\x68\x00\x0FNOT\x12 \x0FRELEASED",
-            [
-                "NOT RELEASED (runs past the slot)",
-                "NOT RELEASED (begins before the slot)",
-            ],
+            b"\x1B$\x3C\x00NOT\x12 \x0FRELEASED",
+            ["NOT RELEASED (out of step)", "(nothing) (out of step)"],
+            true,
         ),
         // Rows a dot apart are one line.
         (
             b"          NOT\x1BJ\x01 RELEASED",
             [
-                "NOT RELEASED (runs past the slot)",
-                "NOT RELEASED (begins before the slot)",
+                "NOT RELEASED (runs past the slot, printed in pieces)",
+                "NOT RELEASED (begins before the slot, printed in pieces)",
             ],
+            false,
         ),
         (
             b"     STATE   HELD  RELEASED ",
             [
-                "HELD RELEASED (runs past the slot)",
+                "HELD RELEASED (begins after the first column, runs past the slot, has a gap)",
                 "RELEASED (begins before the slot)",
             ],
+            true,
         ),
-        (b"   STATE   HELD       FREE  ", ["HELD", "FREE"]),
+        (
+            b"   STATE   HELD       FREE  ",
+            [
+                "HELD (begins after the first column)",
+                "FREE (begins after the first column)",
+            ],
+            true,
+        ),
         // Letters struck over each other: the newer one, but no blank, and no
-        // underscore.
-        (b"\x1B$\x3C\x00HELD\x1B$\x3D\x00FREE", ["FREE", none]),
+        // underscore; what can no longer be read is marked, and so is text of which
+        // a part is struck over itself.
+        (
+            b"\x1B$\x3C\x00HELD\x1B$\x3D\x00FREE",
+            ["FREE (struck over other text)", none],
+            false,
+        ),
         (
             b"\x1B$\x3C\x00HELD\x1B$\x3C\x00____\x1B$\x3C\x00    ",
             ["HELD", none],
+            false,
         ),
-        (b"\x1B$\x3B\x00A\x1B$\x3C\x00B", ["B", none]),
-        (b"\x1B$\x3C\x00____\x1B$\x3C\x00HELD", ["HELD", none]),
-        (b"\x1B$\x3C\x00A\x1B$\x54\x00B", ["A B", none]),
+        (b"\x1B$\x3C\x00____\x1B$\x3C\x00HELD", ["HELD", none], false),
+        (b"\x1B$\x3C\x00HELD\x1B$\x3C\x00HELD", ["HELD", none], false),
+        (
+            b"\x1B$\x3C\x00LOCKED OUT\x1B$\x3C\x00LOCKED",
+            [
+                "LOCKED OUT (printed in pieces, struck over other text)",
+                none,
+            ],
+            false,
+        ),
+        (
+            b"\x1B$\x3B\x00A\x1B$\x3C\x00B",
+            ["B (struck over other text)", none],
+            false,
+        ),
+        // Words, or letters, that came one by one.
+        (
+            b"\x1B$\x3C\x00A\x1B$\x54\x00B",
+            ["A B (has a gap)", none],
+            false,
+        ),
         (
             b"\x1B$\x42\x00EL\x1B$\x3C\x00H\x1B$\x4E\x00D",
+            ["HELD (printed in pieces)", none],
+            false,
+        ),
+        (
+            b"\x1B$\x3C\x00H\x1B$\x42\x00E\x1B$\x48\x00L\x1B$\x4E\x00D",
             ["HELD", none],
+            false,
         ),
         // A newer line, a page turned, a new top.
-        (b"\x1B$\x3C\x00RELEASED\n\x1B$\x3C\x00HELD", ["HELD", none]),
-        (b"\x1B$\x3C\x00RELEASED\x0C", [none, none]),
-        (b"\x1B$\x3C\x00RELEASED\x1B@", [none, none]),
+        (
+            b"\x1B$\x3C\x00RELEASED\n\x1B$\x3C\x00HELD",
+            ["HELD", none],
+            false,
+        ),
+        (b"\x1B$\x3C\x00RELEASED\x0C", [none, none], false),
+        (b"\x1B$\x3C\x00RELEASED\x1B@", [none, none], false),
     ];
-    for (input, words) in cases {
-        let came = prints(&["--slots", "10,20"], input);
+    for (input, words, out_of_step) in cases {
+        let said = if out_of_step { OUT_OF_STEP } else { "" };
+        let came = prints_and_says(&["--slots", "10,20"], input, said);
         assert_eq!(came, slot_lines(&words), "{}", input.escape_ascii());
     }
     assert_eq!(prints(&["--slots", "0"], b"AB C"), slot_lines(&["AB C"]));
     let narrow = ["--slots", "10,30", "--width", "7200"];
     assert_eq!(prints(&narrow, b""), slot_lines(&[none, none]));
+}
+
+/// Text that goes up to the right margin may go on in the next line.
+#[test]
+fn slots_at_the_right_margin() {
+    let cases: [(&[u8], [&str; 2]); 5] = [
+        (b"\x1B$\x3C\x00INHIBITED", ["(nothing)", "INHIBITED"]),
+        (
+            b"\x1B$\x3C\x00UNRELEASED",
+            ["(nothing)", "UNRELEASED (goes on in the line below)"],
+        ),
+        (
+            b"\x1B$\x3C\x00DOORS NOT RELEASED",
+            [
+                "RELEASED (goes on from the line above)",
+                "DOORS NOT (goes on in the line below)",
+            ],
+        ),
+        (
+            b"\x1B$\x3C\x00NOW UNRELEASED",
+            [
+                "ASED (goes on from the line above)",
+                "NOW UNRELE (goes on in the line below)",
+            ],
+        ),
+        // The rest of the word is voided.
+        (
+            b"\x1B$\x3C\x00NOW UNRELEASED\x1Bl\x00",
+            ["(nothing)", "NOW UNRELE (goes on in the line below)"],
+        ),
+    ];
+    for (input, words) in cases {
+        for dots in ["300", "203"] {
+            let asked = ["--slots", "0,10", "--width", "7200", "--dots", dots];
+            assert_eq!(
+                prints(&asked, input),
+                slot_lines(&words),
+                "{}",
+                input.escape_ascii()
+            );
+        }
+    }
+}
+
+/// A card of 12 to the inch, asked for columns of 10 to the inch: every slot is
+/// marked. Named as its own, none is.
+#[test]
+fn slots_of_another_pitch() {
+    let card = |begin: &[u8]| {
+        let heading = b"\x1BD\x0A\x14\x1E\x28\x32\x3C\x46\x00SLOT\t1\t2\t3\t4\t5\t6\t7\r\n";
+        let state = b"STATE\tLOCKED\tLOCKED\tLOCKED\tRELEASED\tLOCKED\tLOCKED\tLOCKED\r\n";
+        [begin, heading, state].concat()
+    };
+    let mut words = ["LOCKED"; 7];
+    words[3] = "RELEASED";
+    // How the pitch is chosen, and the slots' names.
+    let pitches: [(&[u8], &[&str]); 6] = [
+        (
+            b"",
+            &["10,20,30,40,50,60,70", "1in,2in,3in,4in,5in,6in,7in"],
+        ),
+        (
+            b"\x1BM",
+            &[
+                "10,20,30,40,50,60,70@12",
+                "0.833in,1.667in,2.5in,3.333in,4.167in,5in,5.833in",
+                "3000u,6000u,2.5in,12000u,15000u,5in,21000u",
+            ],
+        ),
+        (b"\x1Bg", &["10,20,30,40,50,60,70@15"]),
+        (b"\x0F", &["10,20,30,40,50,60,70@17"]),
+        (b"\x1BM\x0F", &["10,20,30,40,50,60,70@20"]),
+        (
+            b"\x1BM\x1B \x01",
+            &["3200u,6400u,9600u,12800u,16000u,19200u,22400u"],
+        ),
+    ];
+    for (begin, names) in pitches {
+        for dots in ["300", "203"] {
+            for slots in names {
+                let came = prints(&["--slots", slots, "--dots", dots], &card(begin));
+                assert_eq!(came, slot_lines(&words), "{slots}");
+            }
+            if !begin.is_empty() {
+                let asked = [&SLOTS[..], &["--dots", dots]].concat();
+                let came = prints_and_says(&asked, &card(begin), OUT_OF_STEP);
+                let marked = |line: &str| line.ends_with("out of step)");
+                assert!(came.lines().all(marked), "{came}");
+            }
+        }
+    }
+    // With 12 to the inch the sixth slot is where the fifth is named, and a line may
+    // have nothing else: its pitch and the stops tell.
+    let sixth = b"\x1BM\x1BD\x0A\x14\x1E\x28\x32\x3C\x46\x00STATE\t\t\t\t\t\tRELEASED\r\n";
+    let came = prints_and_says(&SLOTS, sixth, OUT_OF_STEP);
+    assert!(
+        came.contains("slot 5 (electricians: 4)  RELEASED (out of step)\n"),
+        "{came}"
+    );
+    // With a margin every slot is where the next is named.
+    let margin = card(b"\x1Bl\x0A");
+    let came = prints_and_says(&SLOTS, &margin, OUT_OF_STEP);
+    assert!(
+        came.contains("slot 5 (electricians: 4)  RELEASED (out of step)\n"),
+        "{came}"
+    );
+    // Frames say it too.
+    let came = prints(&[&SLOTS[..], &["--follow"]].concat(), sixth);
+    let said = OUT_OF_STEP.strip_prefix("card: ").unwrap().trim_end();
+    assert!(came.contains(&format!("\n({said})\n")), "{came}");
 }
 
 /// A word that begins before its slot is whole in both.
@@ -507,10 +699,11 @@ fn a_word_across_two_slots() {
         let asked = [&SLOTS[..], &["--dots", dots]].concat();
         let mut words = ["(nothing)"; 7];
         (words[2], words[3]) = (
-            "UNRELEASED (runs past the slot)",
+            "UNRELEASED (begins after the first column, runs past the slot)",
             "UNRELEASED (begins before the slot)",
         );
-        assert_eq!(prints(&asked, &input), slot_lines(&words));
+        let came = prints_and_says(&asked, &input, OUT_OF_STEP);
+        assert_eq!(came, slot_lines(&words));
     }
 }
 
@@ -677,8 +870,37 @@ fn bad_values() {
         ("--cpi", "1 to 100", &["0", "101", "ten", ""]),
         (
             "--slots",
-            "columns from 0 to 79, ascending, as 10,20,30",
-            &["", "10,", ",10", "10,10", "20,10", "80", "10;20", "-1"],
+            "places on 8 inches of paper, ascending: columns as 10,20,30 or, of another pitch, \
+             10,20,30@12 (10, 12, 15, 17, 20); 1in,2.5in; 3600u",
+            &[
+                "",
+                "10,",
+                ",10",
+                "10,10",
+                "20,10",
+                "80",
+                "10;20",
+                "-1",
+                "96@12",
+                "10@",
+                "10@11",
+                "10@12,20@12",
+                "@12",
+                "10,1.5in",
+                "1in,3600u",
+                "8in",
+                "28800u",
+                "1.5u",
+                "1.in",
+                ".5in",
+                "in",
+                "u",
+                "1in@12",
+                "1000000000in",
+                "99999999",
+                "1IN",
+                "-1in",
+            ],
         ),
         ("--svg", "the beginning of the pictures' names", &[""]),
     ];
@@ -852,9 +1074,6 @@ fn a_line_written_over_without_end() {
     // So are lines of which each is written over and over.
     let line = [&input.repeat(1_000)[..], b"\n"].concat();
     long(&[], &line, 20_000_000, 16 << 10);
-    let came = prints(&["--slots", "15"], &input.repeat(100_000));
-    assert!(
-        came.starts_with("slot 1 (electricians: 0)  RELEASED\n"),
-        "{came}"
-    );
+    let came = prints(&["--slots", "5580u"], &input.repeat(100_000));
+    assert_eq!(came, slot_lines(&["RELEASED"]));
 }

@@ -291,7 +291,7 @@ fn slots_on_a_small_screen() {
     let all = ["… 2 li…", page, "slot 1…", "slot 2…"];
     for (rows, lines) in [(5, &all[..]), (2, &all[3..])] {
         let mut terminal = Terminal::new(rows, 7);
-        let words = ["--follow", "--slots", "0,1"];
+        let words = ["--follow", "--slots", "0u,720u"];
         let (mut child, mut stdin) = start(&terminal, card(&words));
         stdin.write_all(b"1\r\n2\r\n\x1BW\x01\x1BE1234").unwrap();
         terminal.until(&format!("{HOME}{}{BELOW}", over(lines)));

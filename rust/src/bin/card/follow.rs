@@ -42,21 +42,21 @@ pub fn run(options: Options) -> Outcome<()> {
     thread::spawn(move || send(input, &sender));
     let mut reader = Reader::new(&options.settings, care(&options));
     let mut screen = Screen::new(options);
-    screen.draw(&reader)?;
+    screen.draw(&mut reader)?;
     // When the frame was drawn to which something has come since.
     let mut stale = None;
     loop {
         match next(&pieces, stale) {
             Next::Piece(piece) => {
-                let piece = piece.map_err(|failure| screen.end(&reader, failure))?;
+                let piece = piece.map_err(|failure| screen.end(&mut reader, failure))?;
                 reader.read(&piece, &mut |page, state| screen.turn(page, state))?;
                 stale = stale.or(Some(screen.drawn));
             }
             Next::Pause => {
-                screen.draw(&reader)?;
+                screen.draw(&mut reader)?;
                 stale = None;
             }
-            Next::End => return screen.draw(&reader),
+            Next::End => return screen.draw(&mut reader),
         }
     }
 }
@@ -127,13 +127,14 @@ impl Screen {
     }
 
     /// Draws a last frame where the input could not be read; gives the failure.
-    fn end(&mut self, reader: &Reader, failure: Failure) -> Failure {
+    fn end(&mut self, reader: &mut Reader, failure: Failure) -> Failure {
         self.draw(reader).err().unwrap_or(failure)
     }
 
     /// Draws what is there now, if it is not what was drawn last.
-    fn draw(&mut self, reader: &Reader) -> Outcome<()> {
+    fn draw(&mut self, reader: &mut Reader) -> Outcome<()> {
         self.drawn = Instant::now();
+        reader.settle();
         let size = self.terminal.then(terminal::size).flatten();
         let mut frame = self.frame(reader);
         if let Some((rows, columns)) = size {
@@ -170,7 +171,9 @@ impl Screen {
             _ => self.lines(page, state, &mut lines),
         }
         if let Some(asked) = &self.options.slots {
-            slots::draw(page, state, asked, &mut lines);
+            if !slots::draw(page, state, asked, &mut lines) {
+                lines += &format!("({})\n", slots::OUT_OF_STEP);
+            }
         }
         lines
     }

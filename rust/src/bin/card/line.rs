@@ -25,15 +25,19 @@ pub struct Letter {
     pub style: u16,
     /// The columns of the tab stops are as wide.
     pub column_width: u16,
+    /// Whether it is struck over another letter, or another over it, so that
+    /// neither can be read; and how often the same one is.
+    pub struck: bool,
+    pub again: u16,
     /// The width of the blank right before it, if there is one; see [`inked`].
     blank: u16,
     /// Its place among the letters as they came.
-    order: u32,
+    pub order: u32,
 }
 
 impl Letter {
     /// The letter of a record, if it is one. One struck twice is bold.
-    fn of(order: u32, record: Record, across: u32) -> Option<Letter> {
+    pub fn of(order: u32, record: Record, across: u32) -> Option<Letter> {
         let Record::Tx {
             column,
             row,
@@ -62,6 +66,8 @@ impl Letter {
             } else {
                 advance
             },
+            struck: false,
+            again: 0,
             blank: 0,
             order,
         })
@@ -80,31 +86,51 @@ impl Letter {
     }
 
     /// Makes of another letter what shows where this one is struck over it, or it
-    /// over this one; it does not stand to the right of this one.
+    /// over this one; it does not stand to the right of this one. A blank hides
+    /// nothing.
     fn strike(&self, below: &mut Letter) {
         let (ours, theirs) = ((self.sign, self.style), (below.sign, below.style));
-        (below.sign, below.style) = if self.order > below.order {
+        let (sign, style) = if self.order > below.order {
             struck(theirs, ours)
         } else {
             struck(ours, theirs)
         };
-        below.last = self.column;
-        below.advance = below.advance.max(self.advance);
-        below.order = below.order.max(self.order);
+        if below.is_blank() && !self.is_blank() {
+            *below = *self;
+        } else if below.is_blank() || !self.is_blank() {
+            below.struck |= self.struck || hides(self.sign, below.sign);
+            below.again += u16::from(self.sign == below.sign);
+            below.last = self.column;
+            below.advance = below.advance.max(self.advance);
+            // An underscore adds a line, and is not what is read.
+            below.order = match (below.sign, self.sign) {
+                ('_', _) => self.order,
+                (_, '_') => below.order,
+                _ => below.order.max(self.order),
+            };
+        }
+        (below.sign, below.style) = (sign, style);
     }
 
     /// How far to the right of the end of another letter it begins, in units
     /// times dots to the inch; below 0 where they overlap.
-    fn gap(&self, before: &Letter, across: u32) -> i64 {
+    pub fn gap(&self, before: &Letter, across: u32) -> i64 {
         let between = i64::from(self.column) - i64::from(before.last);
         between * 3_600 - i64::from(before.advance) * i64::from(across)
     }
 
-    /// Whether it begins a word: a blank or most of one's width lies between it
-    /// and the letter before it.
+    /// Whether it begins a word: a blank, at least half of which shows, or most of
+    /// one's width lies between it and the letter before it.
     pub fn begins_word(&self, before: &Letter, across: u32) -> bool {
         let narrower = i64::from(self.advance.min(before.advance));
-        self.blank > 0 || 4 * self.gap(before, across) >= 3 * narrower * i64::from(across)
+        let (gap, blank) = (self.gap(before, across), i64::from(self.blank));
+        let across = i64::from(across);
+        blank > 0 && 2 * gap >= blank * across || 4 * gap >= 3 * narrower * across
+    }
+
+    /// Whether it begins a word, and no blank was printed before it.
+    pub fn is_set_apart(&self, before: &Letter, across: u32) -> bool {
+        self.blank == 0 && self.begins_word(before, across)
     }
 
     /// Whether more than a blank lies between it and the letter before it.
@@ -146,6 +172,11 @@ pub fn inked(shown: &[Letter]) -> Vec<Letter> {
         }
     }
     inked
+}
+
+/// Whether of two letters struck over each other neither can be read.
+fn hides(one: char, other: char) -> bool {
+    one != other && ![one, other].iter().any(|sign| matches!(sign, ' ' | '_'))
 }
 
 /// What a letter struck over another shows, each a sign and its style: the newer

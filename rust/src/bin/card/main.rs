@@ -3,8 +3,11 @@
 
 mod braille;
 mod follow;
+#[cfg(test)]
+mod generated;
 mod grid;
 mod input;
+mod layout;
 mod letters;
 mod line;
 mod options;
@@ -18,7 +21,7 @@ mod text;
 
 use ierbulosc::State;
 use input::Input;
-use options::{choice, Choice, Options, Slots, HELP};
+use options::{choice, Choice, Options, HELP};
 use page::Page;
 use progress::Progress;
 use reader::{Care, Reader};
@@ -105,6 +108,8 @@ struct Shown {
     pages: u64,
     /// Whether a word of the text is not at its place.
     crowded: bool,
+    /// Whether the slots named are not the card's.
+    out_of_step: bool,
 }
 
 impl Shown {
@@ -117,6 +122,7 @@ impl Shown {
             progress: Progress::new(total),
             pages: 0,
             crowded: false,
+            out_of_step: false,
         }
     }
 
@@ -157,8 +163,8 @@ impl Shown {
 fn care(options: &Options) -> Care {
     if options.svg.is_some() {
         Care::Places
-    } else if options.slots == Some(Slots::Stops) {
-        Care::Stops
+    } else if options.slots.is_some() {
+        Care::Layout
     } else {
         Care::Nothing
     }
@@ -177,6 +183,9 @@ fn run(options: Options) -> Outcome<()> {
     if shown.crowded {
         complain(text::CROWDED);
     }
+    if shown.out_of_step {
+        complain(slots::OUT_OF_STEP);
+    }
     Ok(())
 }
 
@@ -184,7 +193,9 @@ fn run(options: Options) -> Outcome<()> {
 fn end(reader: &mut Reader, shown: &mut Shown) -> Outcome<()> {
     reader.end(&mut |page, state| shown.page(page, state))?;
     if let Some(slots) = &shown.options.slots {
-        slots::draw(reader.page(), reader.state(), slots, &mut shown.text);
+        reader.settle();
+        let in_step = slots::draw(reader.page(), reader.state(), slots, &mut shown.text);
+        shown.out_of_step = !in_step;
     }
     Ok(())
 }

@@ -16,14 +16,17 @@ shows each page: letters at their places, images as dots.
                   that stand closer want more: 12, 15, 17 or 20
   --svg PREFIX    in place of text, a picture of each page: PREFIX-1.svg and so on
   --slots LIST    in place of text, at the end, what stands in each slot now; LIST is
-                  the columns at which slots begin, 10 to the inch: 10,20,30
+                  where slots begin, from the left of the paper: columns, 10 to the
+                  inch, 10,20,30, or of another pitch, 10,20,30@12 (10, 12, 15, 17
+                  or 20); or places in inches, 0.833in,1.5in, or 1/3600 inch, 3000u
   --slot-stops    the same, where slots begin at the tab stops in force
   --follow        redraws the present page, and the slots, as bytes come
   --help          this text
   --version       the version
 A slot goes up to the next one, the last to the edge of the paper. What stands there
 is what the newest line there has; a page that was turned is gone. Text that begins
-before the slot or runs past it is whole, and marked.
+before the slot or runs past it is whole, and marked; so is all that may be another
+slot's, such as text that does not begin at the slot's first column.
 A serial line is set raw before it is read: stty -F DEVICE 9600 raw -echo
 A FILE of - is standard input; after -- every word is a FILE.
 Styles are shown on a terminal, unless NO_COLOR is set.
@@ -32,8 +35,17 @@ Exit status: 0; 1 where reading or writing failed; 2 for bad usage.
 
 /// The most cells of the text to an inch.
 const MOST_CPI: u32 = 100;
-/// The columns of the widest paper, 10 to the inch.
-const MOST_COLUMNS: u32 = 80;
+/// The widest paper, in units.
+const WIDEST: u32 = 28_800;
+/// The pitches that columns of slots may be named in, with their columns' width
+/// in units.
+const PITCHES: [(&str, u32); 5] = [
+    ("10", 360),
+    ("12", 300),
+    ("15", 240),
+    ("17", 216),
+    ("20", 180),
+];
 
 /// The options without a value.
 const FLAGS: [&str; 5] = [
@@ -49,15 +61,26 @@ const DOTS: &str = "--dots takes 203 or 300";
 const WIDTH: &str = "--width takes 7200 to 28800";
 const CPI: &str = "--cpi takes 1 to 100";
 const SVG: &str = "--svg takes the beginning of the pictures' names";
-const SLOTS: &str = "--slots takes columns from 0 to 79, ascending, as 10,20,30";
+const SLOTS: &str = "--slots takes places on 8 inches of paper, ascending: columns as 10,20,30 \
+                     or, of another pitch, 10,20,30@12 (10, 12, 15, 17, 20); 1in,2.5in; 3600u";
 
 /// Where the slots of a card begin.
 #[derive(Clone, PartialEq, Eq, Debug)]
 pub enum Slots {
-    /// At these columns, 10 to the inch from the left of the paper, ascending.
-    Columns(Vec<u32>),
+    /// At these places from the left of the paper, in units, ascending.
+    Places { units: Vec<u32>, named: Named },
     /// At the tab stops in force.
     Stops,
+}
+
+/// How places were named.
+#[derive(Clone, Copy, PartialEq, Eq, Debug)]
+pub enum Named {
+    /// As columns of this width in units.
+    Columns(u32),
+    Units,
+    /// All or some in inches.
+    Inches,
 }
 
 /// What is asked for.
@@ -151,8 +174,8 @@ fn set(
         "--cpi" => options.cpi = number(value()).ok_or(CPI)?,
         "--svg" => options.svg = Some(value().filter(|prefix| !prefix.is_empty()).ok_or(SVG)?),
         "--slots" => {
-            let list = value().and_then(|list| columns(list.to_str()?));
-            options.slots = Some(Slots::Columns(list.ok_or(SLOTS)?));
+            let list = value().and_then(|list| places(list.to_str()?));
+            options.slots = Some(list.ok_or(SLOTS)?);
         }
         "--auto-feed" => options.settings.auto_feed = 1,
         "--slot-stops" => options.slots = Some(Slots::Stops),
@@ -172,12 +195,43 @@ fn number(word: &str) -> Option<u32> {
     taken.then(|| word.parse().ok()).flatten()
 }
 
-/// The columns of a list with commas, ascending strictly.
-fn columns(list: &str) -> Option<Vec<u32>> {
-    let columns: Vec<u32> = list.split(',').map(number).collect::<Option<_>>()?;
-    let ascending = columns.windows(2).all(|pair| pair[0] < pair[1]);
-    let on_paper = columns.iter().all(|&column| column < MOST_COLUMNS);
-    (ascending && on_paper).then_some(columns)
+/// The places of a list with commas, ascending strictly: columns, with their
+/// pitch behind the last, or each in inches or units.
+fn places(list: &str) -> Option<Slots> {
+    let (list, pitch) = match list.rsplit_once('@') {
+        Some((list, pitch)) => (list, Some(pitch)),
+        None => (list, None),
+    };
+    let is_column = |word: &str| word.bytes().all(|byte| byte.is_ascii_digit());
+    let named = if pitch.is_some() || list.split(',').all(is_column) {
+        let pitch = pitch.unwrap_or(PITCHES[0].0);
+        Named::Columns(PITCHES.iter().find(|(name, _)| *name == pitch)?.1)
+    } else if list.contains('n') {
+        Named::Inches
+    } else {
+        Named::Units
+    };
+    let place = |word| match named {
+        Named::Columns(width) => number(word)?.checked_mul(width),
+        _ => length(word),
+    };
+    let units: Vec<u32> = list.split(',').map(place).collect::<Option<_>>()?;
+    let ascending = units.windows(2).all(|pair| pair[0] < pair[1]);
+    let on_paper = units.iter().all(|&units| units < WIDEST);
+    (ascending && on_paper).then_some(Slots::Places { units, named })
+}
+
+/// A length in units: of a whole number of them, or of inches, to the nearest.
+fn length(word: &str) -> Option<u32> {
+    if let Some(units) = word.strip_suffix('u') {
+        return number(units);
+    }
+    let inches = word.strip_suffix("in")?;
+    let (whole, part) = inches.split_once('.').unwrap_or((inches, "0"));
+    let (whole, parts) = (u64::from(number(whole)?), u64::from(number(part)?));
+    let tenth = 10_u64.pow(part.len() as u32);
+    let units = whole * 3_600 + (2 * parts * 3_600 + tenth) / (2 * tenth);
+    u32::try_from(units).ok()
 }
 
 /// Whether the options hold together.

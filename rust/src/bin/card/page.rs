@@ -1,5 +1,6 @@
 //! What stands on a page.
 
+use crate::layout::{Layout, Layouts};
 use ierbulosc::{records, Records, RECORD_SIZE};
 use std::collections::HashMap;
 
@@ -28,8 +29,6 @@ pub struct List {
     /// As many bytes are of the rows above the present one. No command goes up on
     /// a page, so nothing comes to these any more.
     above: usize,
-    /// As many bytes came before the tab stops moved last.
-    pub before_stops: usize,
     /// Where the bytes of the row grow beyond both, they are thinned.
     many: usize,
     limit: usize,
@@ -42,7 +41,6 @@ impl List {
             places: Vec::new(),
             line: 0,
             above: 0,
-            before_stops: 0,
             many,
             limit: 0,
         }
@@ -56,12 +54,15 @@ impl List {
         records(&self.bytes)
     }
 
-    fn add(&mut self, record: &[u8], place: Option<Place>) {
+    /// Adds a record; whether the row's have been thinned.
+    fn add(&mut self, record: &[u8], place: Option<Place>) -> bool {
         self.bytes.extend_from_slice(record);
         self.places.extend(place);
-        if self.bytes.len() - self.above > self.limit.max(self.many) {
+        let grown = self.bytes.len() - self.above > self.limit.max(self.many);
+        if grown {
             self.thin();
         }
+        grown
     }
 
     /// A line is fed, perhaps to another row.
@@ -75,7 +76,6 @@ impl List {
     fn void(&mut self) {
         self.bytes.truncate(self.line);
         self.places.truncate(self.line / RECORD_SIZE);
-        self.before_stops = self.before_stops.min(self.line);
     }
 
     /// Lets go of records of the row that later ones repeat, as where a line is
@@ -94,17 +94,12 @@ impl List {
         self.places.extend(places);
         self.line = self.above + good.len() * RECORD_SIZE;
         self.limit = 2 * (self.bytes.len() - self.above);
-        if self.before_stops > self.above {
-            // Which of them came before is no longer known: all may have.
-            self.before_stops = self.bytes.len();
-        }
     }
 
     fn clear(&mut self) {
         self.bytes.clear();
         self.places.clear();
         (self.line, self.above, self.limit) = (0, 0, 0);
-        self.before_stops = 0;
     }
 }
 
@@ -113,15 +108,19 @@ pub struct Page {
     /// For the question what stands under a slot: no other records bear on it.
     pub letters: List,
     pub images: List,
+    /// The margins and stops that the letters were printed in, if asked for.
+    pub layouts: Layouts,
     /// The present row.
     row: [u8; 2],
 }
 
 impl Page {
-    pub fn new() -> Page {
+    /// An empty page, with these margins and stops in force.
+    pub fn new(layout: Layout) -> Page {
         Page {
             letters: List::new(MANY_LETTERS),
             images: List::new(MANY_IMAGES),
+            layouts: Layouts::new(layout),
             row: [0; 2],
         }
     }
@@ -134,28 +133,42 @@ impl Page {
     /// page ends with it.
     pub fn take(&mut self, record: &[u8], place: Option<Place>) -> bool {
         match *record {
-            [b'T', b'X', ..] => self.letters.add(record, place),
-            [b'I', b'M', ..] => self.images.add(record, place),
+            [b'T', b'X', ..] => self.add(record, place),
+            [b'I', b'M', ..] => {
+                self.images.add(record, place);
+            }
             [b'L', b'N', _, _, low, high, pages, ..] => {
                 let other = self.row != [low, high];
                 self.row = [low, high];
                 self.lists(|list| list.feed(other));
                 return pages > 0;
             }
-            [b'C', b'L', ..] => self.lists(List::void),
+            [b'C', b'L', ..] => {
+                self.lists(List::void);
+                self.layouts.cut(self.letters.bytes.len());
+            }
             _ => {}
         }
         false
     }
 
+    /// Adds a letter.
+    fn add(&mut self, record: &[u8], place: Option<Place>) {
+        if self.letters.add(record, place) {
+            let letters = &self.letters;
+            self.layouts.thin(letters.above, letters.bytes.len());
+        }
+    }
+
     /// Another sheet.
     pub fn clear(&mut self) {
         self.lists(List::clear);
+        self.layouts.cut(0);
     }
 
-    /// The tab stops have moved.
-    pub fn stops_moved(&mut self) {
-        self.letters.before_stops = self.letters.bytes.len();
+    /// The margins or the tab stops have changed.
+    pub fn change_layout(&mut self, layout: Layout) {
+        self.layouts.change(self.letters.bytes.len(), layout);
     }
 
     fn lists(&mut self, change: impl Fn(&mut List)) {

@@ -1,5 +1,6 @@
 //! The reading of bytes into pages.
 
+use crate::layout::Layout;
 use crate::page::{Page, Place};
 use crate::Outcome;
 use ierbulosc::{Settings, State, IMAGE_DATA, RECORD_SIZE, ROOM};
@@ -8,7 +9,7 @@ use ierbulosc::{Settings, State, IMAGE_DATA, RECORD_SIZE, ROOM};
 const OUTPUT: usize = 1 << 16;
 /// So many bytes are read at a time where more than records is asked for: theirs
 /// have room.
-const PIECE: usize = 512;
+const PIECE: usize = 2_048;
 const _: () = assert!(PIECE * ROOM <= OUTPUT);
 
 /// What is asked for of a page beside its records.
@@ -18,8 +19,8 @@ pub enum Care {
     /// The exact places of letters and image bytes, and the state right before
     /// its end.
     Places,
-    /// When the tab stops have moved.
-    Stops,
+    /// The margins and tab stops that its letters were printed in.
+    Layout,
 }
 
 /// What is done with a page that has ended: it gets the page and a state of
@@ -30,18 +31,39 @@ pub type Show<'a> = &'a mut dyn FnMut(&Page, &State) -> Outcome<()>;
 pub struct Reader {
     state: State,
     page: Page,
+    /// The pages that have ended.
+    pages: u64,
     out: Vec<u8>,
     care: Care,
+    /// With [`Care::Layout`]: input that was read without care.
+    recent: Option<Recent>,
 }
+
+/// Input, in which the present page began, and the state before it. Of a capture
+/// only the last page's layouts are asked for, and care takes time: so it is read
+/// anew, with care, when these are asked for.
+struct Recent {
+    state: State,
+    input: Vec<u8>,
+}
+
+/// The most bytes of it: of a longer page the rest is read with care at once.
+const MOST_RECENT: usize = 1 << 20;
 
 impl Reader {
     /// A reader with these settings, which a start takes.
     pub fn new(settings: &Settings, care: Care) -> Reader {
+        let state = State::start(settings).1;
         Reader {
-            state: State::start(settings).1,
-            page: Page::new(),
+            state,
+            page: Page::new(Layout::of(&state)),
+            pages: 0,
             out: vec![0; OUTPUT],
             care,
+            recent: (care == Care::Layout).then(|| Recent {
+                state,
+                input: Vec::new(),
+            }),
         }
     }
 
@@ -56,19 +78,48 @@ impl Reader {
     }
 
     /// Reads these bytes. Each page that ends and has something on it is shown.
-    pub fn read(&mut self, mut input: &[u8], show: Show) -> Outcome<()> {
+    pub fn read(&mut self, input: &[u8], show: Show) -> Outcome<()> {
+        let (state, pages) = (self.state, self.pages);
+        self.read_through(input, show)?;
+        if self.care == Care::Layout && self.pages > pages {
+            let mut kept = self.recent.take().map_or(Vec::new(), |recent| recent.input);
+            kept.clear();
+            self.recent = Some(Recent { state, input: kept });
+        }
+        if let Some(recent) = &mut self.recent {
+            recent.input.extend_from_slice(input);
+            if recent.input.len() > MOST_RECENT {
+                self.settle();
+            }
+        }
+        Ok(())
+    }
+
+    /// Makes what is asked for known of the present page.
+    pub fn settle(&mut self) {
+        if let Some(recent) = self.recent.take() {
+            self.state = recent.state;
+            self.page = Page::new(Layout::of(&self.state));
+            // Pages that ended have been shown.
+            let _ = self.read_through(&recent.input, &mut |_, _| Ok(()));
+        }
+    }
+
+    /// Reads these bytes, with care where it is due.
+    fn read_through(&mut self, mut input: &[u8], show: Show) -> Outcome<()> {
         while !input.is_empty() {
             let before = self.state;
             let allowance = self.allowance(input);
             let report = self.state.read(input, allowance, &mut self.out);
-            let (piece, rest) = input.split_at(report.read);
-            if self.is_clear(piece.len(), report.written, &before) {
+            let mut done = report.read;
+            if self.is_clear(done, report.written) {
                 self.take(report.written, &before, show)?;
             } else {
                 self.state = before;
-                self.read_by_bytes(piece, show)?;
+                done = done.min(first_escape(input));
+                self.read_by_bytes(&input[..done], show)?;
             }
-            input = rest;
+            input = &input[done..];
         }
         Ok(())
     }
@@ -83,31 +134,43 @@ impl Reader {
         Ok(())
     }
 
+    /// What must be known of the bytes that are read now.
+    fn due(&self) -> Care {
+        match self.recent {
+            Some(_) => Care::Nothing,
+            None => self.care,
+        }
+    }
+
     /// How many bytes are read by the next call: letters or image data, or one
-    /// byte, where places are asked for; at most one escape where stops are.
+    /// byte, where places are asked for; at most one escape that changes margins
+    /// or stops where these are.
     fn allowance(&self, input: &[u8]) -> usize {
-        let escape = |byte: &u8| matches!(byte, 0x1B | 0x9B);
         let control = |byte: &u8| matches!(byte, 0..=0x1F | 0x7F..=0x9F);
+        let changes = |pair: &[u8]| matches!(pair, [0x1B | 0x9B, b'D' | b'l' | b'Q' | b'@']);
         let piece = &input[..input.len().min(PIECE)];
-        match self.care {
+        match self.due() {
             Care::Nothing => usize::MAX,
             Care::Places if self.state.kind == IMAGE_DATA => PIECE,
             Care::Places => piece.iter().position(control).unwrap_or(PIECE).max(1),
-            Care::Stops => 1 + piece[1..].iter().position(escape).unwrap_or(PIECE - 1),
+            Care::Layout => {
+                let next = piece[1..].windows(2).position(changes);
+                1 + next.unwrap_or(PIECE - 1)
+            }
         }
     }
 
     /// Whether what is asked for can be told of a piece that was read by one
     /// call: of one byte it always can.
-    fn is_clear(&self, bytes: usize, written: usize, before: &State) -> bool {
+    fn is_clear(&self, bytes: usize, written: usize) -> bool {
         let mut records = self.out[..written].chunks_exact(RECORD_SIZE);
         bytes == 1
-            || match self.care {
+            || match self.due() {
                 Care::Nothing => true,
                 Care::Places => {
                     records.len() == bytes && records.all(|record| step(record).is_some())
                 }
-                Care::Stops => same_stops(before, &self.state),
+                Care::Layout => self.page.layouts.now().is_of(&self.state),
             }
     }
 
@@ -124,13 +187,14 @@ impl Reader {
                     show(&self.page, before)?;
                 }
                 self.page.clear();
+                self.pages += 1;
             }
             if let Some(place) = &mut place {
                 place.across += step(record).unwrap_or(0);
             }
         }
-        if self.care == Care::Stops && !same_stops(before, &self.state) {
-            self.page.stops_moved();
+        if self.due() == Care::Layout && !self.page.layouts.now().is_of(&self.state) {
+            self.page.change_layout(Layout::of(&self.state));
         }
         Ok(())
     }
@@ -144,6 +208,19 @@ impl Reader {
     }
 }
 
+/// Of bytes that begin with an escape, how many may be its own; else all. A list
+/// of stops ends with a byte that is not above the one before it.
+fn first_escape(input: &[u8]) -> usize {
+    match input {
+        [0x1B | 0x9B, b'D', list @ ..] => {
+            let end = list.windows(2).position(|pair| pair[1] <= pair[0]);
+            end.map_or(input.len(), |end| end + 4)
+        }
+        [0x1B | 0x9B, ..] => 3,
+        _ => input.len(),
+    }
+}
+
 /// How far a letter or an image byte moves the place across, in units; of other
 /// records nothing. Of an image column the last byte does.
 fn step(record: &[u8]) -> Option<u32> {
@@ -154,10 +231,4 @@ fn step(record: &[u8]) -> Option<u32> {
         [b'I', b'M', ..] => Some(0),
         _ => None,
     }
-}
-
-/// Whether the margins and the horizontal tab stops of two states are the same.
-/// (Where a stop is also depends on the column width, which a letter tells.)
-fn same_stops(one: &State, other: &State) -> bool {
-    (one.left, one.right) == (other.left, other.right) && one.columns.held() == other.columns.held()
 }

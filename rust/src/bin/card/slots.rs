@@ -1,51 +1,67 @@
 //! What stands in each slot of a card now, by the library's question.
 
+use crate::layout::Layout;
 use crate::line::{inked, letters, shown, Letter};
-use crate::options::Slots;
+use crate::options::{Named, Slots};
 use crate::page::Page;
-use ierbulosc::{records, slot, Record, State};
+use ierbulosc::{records, slot, Record, State, RECORD_SIZE};
 use std::fmt::Write;
 
-/// The units of a column at 10 to the inch.
-const COLUMN: u32 = 360;
 /// Half the height of a letter in units.
 const HALF_A_LETTER: u32 = 240;
 
-/// Appends a line for each slot. The driver counts slots from 1, the
-/// electricians from 0.
-pub fn draw(page: &Page, state: &State, slots: &Slots, text: &mut String) {
-    let begins = begins(state, slots);
-    if begins.is_empty() {
-        text.push_str("no tab stop is in force, so there are no slots\n");
-    }
-    for (number, &from) in begins.iter().enumerate() {
-        let next = begins.get(number + 1).copied();
-        let slot = Slot {
-            from,
-            end: next.unwrap_or_else(|| dot(state.paper_width, state)),
-            begins: &begins,
-            at_stops: *slots == Slots::Stops,
-            state,
-        };
-        let standing = slot.standing(page);
-        let standing = standing.as_deref().unwrap_or("(nothing)");
-        let driver = number + 1;
-        // Writing to a string does not fail.
-        let _ = writeln!(text, "slot {driver} (electricians: {number})  {standing}");
-    }
+/// What is said where the slots named are not those of the card.
+pub const OUT_OF_STEP: &str = "the card is out of step with --slots; --slot-stops goes by its tab \
+                               stops, 10,20@12 names columns of 12 to the inch, 0.833in or 3000u a place";
+
+/// What stands in a slot now, and what is to be said of it.
+pub struct Answer {
+    pub text: Option<String>,
+    pub notes: Vec<&'static str>,
 }
 
-/// The dot columns at which the slots begin.
-fn begins(state: &State, slots: &Slots) -> Vec<u16> {
-    let units: Vec<u32> = match slots {
-        Slots::Columns(columns) => columns.iter().map(|column| column * COLUMN).collect(),
-        Slots::Stops => {
-            let stops = state.columns.held().iter();
-            let places = stops.map(|stop| state.left + stop * state.column_width);
-            places.filter(|&units| units < state.right).collect()
+/// What stands in all slots.
+pub struct Answers {
+    pub slots: Vec<Answer>,
+    /// Whether each text begins where its slot does, as far as can be seen.
+    pub in_step: bool,
+}
+
+/// Appends a line for each slot; whether the slots are in step with the card. The
+/// driver counts slots from 1, the electricians from 0.
+pub fn draw(page: &Page, state: &State, slots: &Slots, text: &mut String) -> bool {
+    let answers = answers(page, state, slots);
+    if answers.slots.is_empty() {
+        text.push_str("no tab stop is in force, so there are no slots\n");
+    }
+    for (number, answer) in answers.slots.iter().enumerate() {
+        let standing = answer.text.as_deref().unwrap_or("(nothing)");
+        let driver = number + 1;
+        // Writing to a string does not fail.
+        let _ = write!(text, "slot {driver} (electricians: {number})  {standing}");
+        if !answer.notes.is_empty() {
+            let _ = write!(text, " ({})", answer.notes.join(", "));
         }
+        text.push('\n');
+    }
+    answers.in_step
+}
+
+/// What stands in each slot.
+pub fn answers(page: &Page, state: &State, slots: &Slots) -> Answers {
+    let card = Card::new(page, state, slots);
+    let texts: Vec<Option<Text>> = (0..card.places.len()).map(|slot| card.text(slot)).collect();
+    let mut found = texts.iter().flatten().peekable();
+    let fits = match found.peek() {
+        Some(_) => found.all(|text| card.is_fitting(text)),
+        None => card.fits(&Layout::of(state), state.column_width),
     };
-    units.into_iter().map(|units| dot(units, state)).collect()
+    let at_begins = texts.iter().flatten().all(|text| !text.is_late);
+    let answer = |text: Option<Text>| card.answer(text, fits);
+    Answers {
+        slots: texts.into_iter().map(answer).collect(),
+        in_step: *slots == Slots::Stops || fits && at_begins,
+    }
 }
 
 /// The dot column of a place across.
@@ -54,56 +70,53 @@ fn dot(units: u32, state: &State) -> u16 {
     u16::try_from(dot).unwrap_or(u16::MAX)
 }
 
-/// A slot: its dot columns, from the first up to the next slot's.
-struct Slot<'a> {
-    from: u16,
-    end: u16,
-    /// The first columns of all slots, and whether these are tab stops.
-    begins: &'a [u16],
-    at_stops: bool,
+/// A card, and where its slots begin.
+struct Card<'a> {
+    page: &'a Page,
     state: &'a State,
+    slots: &'a Slots,
+    /// In units and in dot columns.
+    places: Vec<u32>,
+    begins: Vec<u16>,
+    /// The dots to the right of these that are still a slot's begin: a place in
+    /// inches may be a dot off, so its slot begins a dot before it.
+    tolerance: u16,
 }
 
-impl Slot<'_> {
-    /// What stands there now: what the newest line there has, and what is to be
-    /// said of its place.
-    fn standing(&self, page: &Page) -> Option<String> {
-        let newest = newest(page.letters.bytes(), self.from, self.end.saturating_sub(1))?;
-        let line = line(page, newest.row, self.state);
-        let inked = inked(&line);
-        let first = inked.partition_point(|letter| letter.last < self.from);
-        let past = inked.partition_point(|letter| letter.column < self.end);
-        if first >= past {
-            return None;
-        }
-        let parted = |place: &usize| self.parted(&inked, *place);
-        let begin = (1..=first).rev().find(parted).unwrap_or(0);
-        let end = (past..inked.len()).find(parted).unwrap_or(inked.len());
-        let moved = newest.offset < page.letters.before_stops
-            || !inked[first..past]
+/// What the newest line has in a slot.
+struct Text {
+    words: String,
+    /// The letters within the slot's columns.
+    letters: Vec<Letter>,
+    /// Whether it begins in the slot, but not at its first column.
+    is_late: bool,
+    /// What else is to be said of it.
+    notes: Vec<&'static str>,
+}
+
+impl<'a> Card<'a> {
+    fn new(page: &'a Page, state: &'a State, slots: &'a Slots) -> Card<'a> {
+        let (places, tolerance) = match slots {
+            Slots::Places { units, named } => {
+                (units.clone(), 2 * u16::from(*named == Named::Inches))
+            }
+            Slots::Stops => {
+                let layout = Layout::of(state);
+                let stops = layout.places(state.column_width);
+                (stops.filter(|&place| place < state.right).collect(), 0)
+            }
+        };
+        Card {
+            page,
+            state,
+            slots,
+            begins: places
                 .iter()
-                .all(|letter| self.is_in_pitch(letter));
-        let off_stop = !line.iter().any(|letter| is_at(letter, self.from));
-        let notes = [
-            (begin < first, "begins before the slot"),
-            (
-                begin == first && self.is_after_label(&inked[..=first]),
-                "follows other text",
-            ),
-            (self.at_stops && moved, "the stops have moved since"),
-            (
-                self.at_stops && !moved && begin == first && off_stop,
-                "begins after the stop",
-            ),
-            (end > past, "runs past the slot"),
-        ];
-        let notes = notes.iter().filter(|(told, _)| *told);
-        let notes: Vec<&str> = notes.map(|(_, note)| *note).collect();
-        let words = words(&inked[begin..end], self.dots());
-        Some(match notes[..] {
-            [] => words,
-            _ => format!("{words} ({})", notes.join(", ")),
-        })
+                .map(|&place| dot(place, state).saturating_sub(tolerance / 2))
+                .collect(),
+            places,
+            tolerance,
+        }
     }
 
     /// Dots to the inch.
@@ -111,10 +124,119 @@ impl Slot<'_> {
         self.state.dots_across
     }
 
-    /// Whether the columns of the tab stops in force are as wide as this letter's
-    /// were.
-    fn is_in_pitch(&self, letter: &Letter) -> bool {
-        u32::from(letter.column_width) == self.state.column_width
+    /// What stands in a slot now: what the newest line there has.
+    fn text(&self, slot: usize) -> Option<Text> {
+        let from = self.begins[slot];
+        let paper = dot(self.state.paper_width, self.state);
+        let end = self.begins.get(slot + 1).copied().unwrap_or(paper);
+        let row = newest_row(self.page.letters.bytes(), from, end.saturating_sub(1))?;
+        let line = self.line(row);
+        let inked = inked(&line);
+        let first = inked.partition_point(|letter| letter.last < from);
+        let past = inked.partition_point(|letter| letter.column < end);
+        if first >= past {
+            return None;
+        }
+        let parted = |place: &usize| self.is_parted(&inked, *place);
+        let begin = (1..=first).rev().find(parted).unwrap_or(0);
+        let last = (past..inked.len()).find(parted).unwrap_or(inked.len());
+        let text = &inked[begin..last];
+        let is_own = begin == first;
+        let has_gap = self.has_gap(text);
+        let notes = [
+            (!is_own, "begins before the slot"),
+            (
+                is_own && self.is_after_label(&inked[..=first]),
+                "follows other text",
+            ),
+            (
+                is_own && self.is_continued(&inked[first]),
+                "goes on from the line above",
+            ),
+            (last > past, "runs past the slot"),
+            (
+                last == inked.len() && self.goes_on(slot, &line, text),
+                "goes on in the line below",
+            ),
+            (has_gap, "has a gap"),
+            (!has_gap && !is_one(text), "printed in pieces"),
+            (is_struck(text), "struck over other text"),
+        ];
+        Some(Text {
+            words: words(text, self.dots()),
+            letters: inked[first..past].to_vec(),
+            is_late: is_own && !self.is_at(&inked[first], from),
+            notes: told(&notes),
+        })
+    }
+
+    /// What is said of a slot; the slots are those of the card, or not.
+    fn answer(&self, text: Option<Text>, fits: bool) -> Answer {
+        let (elsewhere, at) = match self.slots {
+            Slots::Stops => ("the stops have moved since", "begins after the stop"),
+            Slots::Places { .. } => ("out of step", "begins after the first column"),
+        };
+        let Some(mut text) = text else {
+            let apart = *self.slots != Slots::Stops && !fits;
+            return Answer {
+                text: None,
+                notes: told(&[(apart, elsewhere)]),
+            };
+        };
+        let apart = match self.slots {
+            Slots::Stops => !self.is_fitting(&text),
+            Slots::Places { .. } => !fits,
+        };
+        let late = text.is_late && (*self.slots != Slots::Stops || !apart);
+        text.notes.splice(0..0, told(&[(late, at)]));
+        text.notes.extend(told(&[(apart, elsewhere)]));
+        Answer {
+            text: Some(text.words),
+            notes: text.notes,
+        }
+    }
+
+    /// Whether a text was printed while the slots were where they are said to be.
+    fn is_fitting(&self, text: &Text) -> bool {
+        text.letters.iter().all(|letter| {
+            let layout = self.page.layouts.at(letter.order as usize * RECORD_SIZE);
+            layout.is_some_and(|layout| self.fits(layout, letter.column_width.into()))
+        })
+    }
+
+    /// Whether the slots are where they are said to be, for text of columns so
+    /// wide: at the same tab stops as now; or, of places named, in the pitch of
+    /// the columns named, and at stops, if the card has set such.
+    fn fits(&self, layout: &Layout, width: u32) -> bool {
+        match self.slots {
+            Slots::Stops => *layout == Layout::of(self.state) && width == self.state.column_width,
+            Slots::Places { named, .. } => {
+                let stops: Vec<u16> = layout.places(width).map(|at| dot(at, self.state)).collect();
+                let is_stop = |begin: u16| {
+                    let begin = begin..=begin + self.tolerance;
+                    stops.iter().any(|stop| begin.contains(stop))
+                };
+                let right = dot(layout.right, self.state);
+                let mut within = self.begins.iter().filter(|&&begin| begin < right);
+                let in_pitch = !matches!(named, Named::Columns(column) if *column != width);
+                in_pitch && (!layout.is_set() || within.all(|&begin| is_stop(begin)))
+            }
+        }
+    }
+
+    /// The letters of a row as they show, from the left, with those of rows that
+    /// are too close to each other to be another line.
+    fn line(&self, row: u16) -> Vec<Letter> {
+        let close = |one: &Letter, next: &Letter| {
+            u32::from(next.row.abs_diff(one.row)) * 3_600 < HALF_A_LETTER * self.state.dots_down
+        };
+        // No command goes up on a page, so letters come in the order of their rows.
+        let all: Vec<Letter> = letters(self.page, self.dots()).collect();
+        let mut lines = all.chunk_by(close);
+        let of_row = |line: &&[Letter]| line.iter().any(|letter| letter.row == row);
+        let mut line = lines.find(of_row).unwrap_or_default().to_vec();
+        line.sort_by_key(|letter| letter.column);
+        shown(&line, self.dots())
     }
 
     /// Whether the last of these letters comes one blank after others that stand
@@ -129,13 +251,14 @@ impl Slot<'_> {
     }
 
     /// Whether another text begins with this letter, which is not the first one:
-    /// behind a gap wider than a blank, or where a slot does, unless text from
-    /// within another slot goes on there.
-    fn parted(&self, inked: &[Letter], place: usize) -> bool {
+    /// behind a gap wider than a blank, or, with no blank printed before it, where
+    /// a slot does, unless text from within another slot goes on there.
+    fn is_parted(&self, inked: &[Letter], place: usize) -> bool {
         let (before, letter) = (&inked[place - 1], &inked[place]);
-        let word = letter.begins_word(before, self.dots());
         letter.is_far(before, self.dots())
-            || word && self.is_begin(letter) && self.is_apart(&inked[..place])
+            || letter.is_set_apart(before, self.dots())
+                && self.is_begin(letter)
+                && self.is_apart(&inked[..place])
     }
 
     /// Whether the text at the end of these letters is a slot's own, or stands
@@ -154,45 +277,123 @@ impl Slot<'_> {
         inked.first().is_some_and(own)
     }
 
+    /// Whether a letter stands at a column.
+    fn is_at(&self, letter: &Letter, column: u16) -> bool {
+        letter.column <= column + self.tolerance && column <= letter.last
+    }
+
     /// Whether a letter stands where a slot begins.
     fn is_begin(&self, letter: &Letter) -> bool {
-        self.begins.iter().any(|&begin| is_at(letter, begin))
+        self.begins.iter().any(|&begin| self.is_at(letter, begin))
+    }
+
+    /// Whether parts of a text are apart otherwise than by a printed blank, or
+    /// letters of a word are not evenly apart: they may not belong together.
+    fn has_gap(&self, text: &[Letter]) -> bool {
+        let apart = |pair: &[Letter]| {
+            pair[1].is_far(&pair[0], self.dots()) || pair[1].is_set_apart(&pair[0], self.dots())
+        };
+        let mut words = text.chunk_by(|one, next| !next.begins_word(one, self.dots()));
+        text.windows(2).any(apart) || words.any(|word| !is_even(word, self.dots()))
+    }
+
+    /// The letter at this place among those that came, if there is one.
+    fn letter(&self, order: u32) -> Option<Letter> {
+        let rest = self
+            .page
+            .letters
+            .bytes()
+            .get(order as usize * RECORD_SIZE..)?;
+        Letter::of(order, records(rest).next()?, self.dots())
+    }
+
+    /// Whether the text of a slot, in this line, may go on in the next one: behind
+    /// it, and perhaps a blank, is no room for another letter.
+    fn goes_on(&self, slot: usize, line: &[Letter], text: &[Letter]) -> bool {
+        let (first, last) = (&text[0], &text[text.len() - 1]);
+        let blank = self.letter(last.order + 1);
+        let blank = blank.filter(|letter| letter.is_blank() && letter.column > last.column);
+        let last = blank.as_ref().unwrap_or(last);
+        let before = |letter: &&Letter| (first.column..last.column).contains(&letter.column);
+        let widths = line
+            .iter()
+            .filter(before)
+            .map(|letter| u32::from(letter.advance));
+        // Its exact place, if the text begins at the slot's and its letters touch.
+        let place = self.places[slot] + widths.sum::<u32>();
+        let exact = dot(place, self.state) == last.column;
+        self.is_full(last, if exact { place } else { self.most(last) })
+    }
+
+    /// Whether a text that begins with this letter may go on from the line above:
+    /// the letter that came before it, but for a blank, is at the right margin.
+    fn is_continued(&self, first: &Letter) -> bool {
+        let before = |back: u32| self.letter(first.order.checked_sub(back)?);
+        let is_blank = |back: u32| before(back).is_some_and(|letter| letter.is_blank());
+        let is_last = |back: u32| {
+            let last = before(back).filter(|last| last.column >= first.column);
+            last.is_some_and(|last| self.is_full(&last, self.most(&last)))
+        };
+        let behind_blank = is_blank(1) && is_last(2);
+        (is_last(1) || behind_blank) && !(is_blank(1) && is_blank(2))
+    }
+
+    /// The last place in units that a letter may have by its column.
+    fn most(&self, letter: &Letter) -> u32 {
+        (u32::from(letter.column) * 3_600 + 1_799) / self.dots()
+    }
+
+    /// Whether behind this letter, which is at this place, is no room for another
+    /// one, or for the next that came.
+    fn is_full(&self, last: &Letter, place: u32) -> bool {
+        let next = self.letter(last.order + 1);
+        let next = next.filter(|next| next.column <= last.column);
+        let wide = next.map_or(0, |next| next.advance).max(last.advance);
+        let end = place + u32::from(last.advance) + u32::from(wide);
+        let layout = self.page.layouts.at(last.order as usize * RECORD_SIZE);
+        layout.is_none_or(|layout| end > layout.right)
     }
 }
 
-/// Whether a letter stands at a column, but for a dot that rounding may give.
-fn is_at(letter: &Letter, column: u16) -> bool {
-    letter.column.abs_diff(column) <= 1
+/// The notes of which it holds that they are told.
+fn told(notes: &[(bool, &'static str)]) -> Vec<&'static str> {
+    let told = notes.iter().filter(|(told, _)| *told);
+    told.map(|(_, note)| *note).collect()
 }
 
-/// The newest letter from one column to another.
-struct Newest {
-    row: u16,
-    /// Where its record begins in the list.
-    offset: usize,
+/// Whether letters of a text are struck over others, or some of them, and not
+/// all, over the same: a longer text may be below.
+fn is_struck(text: &[Letter]) -> bool {
+    let again = text[0].again;
+    text.iter()
+        .any(|letter| letter.struck || letter.again != again)
 }
 
-fn newest(list: &[u8], from: u16, to: u16) -> Option<Newest> {
-    let (_, part) = slot(list, from, to);
-    match records(part).next() {
-        Some(Record::Tx { row, .. }) => Some(Newest {
-            row,
-            offset: part.as_ptr() as usize - list.as_ptr() as usize,
-        }),
+/// Whether the letters of a text were printed one after the other, in one row.
+fn is_one(text: &[Letter]) -> bool {
+    text.windows(2).all(|pair| {
+        let (before, letter) = (&pair[0], &pair[1]);
+        let next = before.order + 1..=before.order + 2;
+        letter.row == before.row && next.contains(&letter.order)
+    })
+}
+
+/// Whether the letters of a word are evenly apart, but for dots that rounding may
+/// give.
+fn is_even(word: &[Letter], across: u32) -> bool {
+    let gaps = word.windows(2).map(|pair| pair[1].gap(&pair[0], across));
+    let (least, most) = gaps.fold((i64::MAX, i64::MIN), |(least, most), gap| {
+        (least.min(gap), most.max(gap))
+    });
+    most.saturating_sub(least) < 3 * 3_600
+}
+
+/// The row of the newest letter from one column to another.
+fn newest_row(list: &[u8], from: u16, to: u16) -> Option<u16> {
+    match records(slot(list, from, to).1).next() {
+        Some(Record::Tx { row, .. }) => Some(row),
         _ => None,
     }
-}
-
-/// The letters of a row as they show, from the left, with those of rows that are
-/// too close to be another line.
-fn line(page: &Page, row: u16, state: &State) -> Vec<Letter> {
-    let close = |letter: &Letter| {
-        u32::from(letter.row.abs_diff(row)) * 3_600 < HALF_A_LETTER * state.dots_down
-    };
-    let of_row = letters(page, state.dots_across).filter(close);
-    let mut line: Vec<Letter> = of_row.collect();
-    line.sort_by_key(|letter| letter.column);
-    shown(&line, state.dots_across)
 }
 
 /// Letters as text, with a space between words.
