@@ -124,9 +124,9 @@ impl Drop for Folder {
 }
 
 /// Text and pictures of a card at both resolutions are the stored ones, with
-/// so many pages; this is said of the text. Pictures have exact places, so they
-/// are the same at both.
-fn as_stored(name: &str, pages: usize, words: &[&str], said: &str) {
+/// pages of these numbers; this is said. Pictures have exact places, so they are
+/// the same at both.
+fn as_stored(name: &str, pages: &[u32], words: &[&str], said: &str) {
     let input = stored(&format!("{name}.prn"));
     let input = input.to_str().unwrap();
     for (dots, ending) in [("300", ""), ("203", "-203")] {
@@ -136,10 +136,9 @@ fn as_stored(name: &str, pages: usize, words: &[&str], said: &str) {
         let folder = Folder::new(&format!("card-{name}{ending}"));
         let prefix = folder.0.join(name);
         let words = [&words[..], &["--svg", prefix.to_str().unwrap()]].concat();
-        assert_eq!(prints(&words, b""), "", "{name}{ending}");
-        let names: Vec<String> = (1..=pages)
-            .map(|page| format!("{name}-{page}.svg"))
-            .collect();
+        assert_eq!(prints_and_says(&words, b"", said), "", "{name}{ending}");
+        let picture = |page: &u32| format!("{name}-{page}.svg");
+        let names: Vec<String> = pages.iter().map(picture).collect();
         assert_eq!(folder.names(), names);
         for picture in &names {
             let came = fs::read_to_string(folder.0.join(picture)).unwrap();
@@ -151,32 +150,33 @@ fn as_stored(name: &str, pages: usize, words: &[&str], said: &str) {
 
 #[test]
 fn a_card_on_which_released_moves() {
-    as_stored("moves", 1, &[], "");
+    as_stored("moves", &[1], &[], "");
 }
 
 #[test]
 fn styles() {
-    as_stored("styles", 1, &[], CROWDED);
+    as_stored("styles", &[1], &[], "");
 }
 
 #[test]
 fn lines_that_lie_close_and_letters_struck_over() {
-    as_stored("close", 1, &[], "");
+    as_stored("close", &[1], &[], "");
 }
 
 #[test]
 fn an_automatic_line_on_narrow_paper() {
-    as_stored("narrow", 1, &["--width", "7200"], "");
+    as_stored("narrow", &[1], &["--width", "7200"], "");
 }
 
 #[test]
 fn pages_and_a_voided_line() {
-    as_stored("pages", 3, &[], "");
+    as_stored("pages", &[1, 2, 4], &[], "");
 }
 
 #[test]
 fn images_of_every_mode() {
-    as_stored("images", 1, &[], "");
+    let said = "card: passed over: 1 not allowed (first at byte 630)\n";
+    as_stored("images", &[1], &[], said);
 }
 
 /// RELEASED stands under the 4, however close its letters and the blanks before
@@ -202,33 +202,72 @@ fn columns_of_closer_letters() {
             input.extend(vec![b' '; blanks]);
             input.extend_from_slice(b"RELEASED");
             input.extend_from_slice(end);
-            let came = prints(&["--dots", dots], &input);
+            let came = prints(&["--cpi", "10", "--dots", dots], &input);
             assert_eq!(came, format!("{heading}{line}"), "{}", begin.escape_ascii());
         }
     }
 }
 
-/// Words in columns stay there, and are cut where the next one leaves no room;
-/// running text goes on to the right; a finer grid has room for all.
+/// The grid follows the letters of a page, so that none is cut; a page of several
+/// pitches has that of the narrowest.
+#[test]
+fn the_grid_follows_the_page() {
+    let words = "RELEASED  LOCKED    RELEASED  HELD\n";
+    let table = b"\x1BD\x0A\x14\x1E\x00RELEASED\tLOCKED\tRELEASED\tHELD";
+    for pitch in [&b""[..], b"\x1BM", b"\x1Bg", b"\x0F", b"\x1BM\x0F"] {
+        for dots in ["300", "203"] {
+            let input = [pitch, table].concat();
+            assert_eq!(prints(&["--dots", dots], &input), words);
+        }
+    }
+    let mixed = b"TEN TO THE\r\n\x1BMTWELVE TO";
+    assert_eq!(prints(&[], mixed), "TEN TO  THE\nTWELVE TO\n");
+    // Each page has its own.
+    let pages = b"\x1BMA B\x0C\x1BPA B";
+    assert_eq!(prints(&[], pages), "A B\n---- page 2 ----\nA B\n");
+}
+
+/// Double width letters have even cells in every pitch; ESC SP is space between
+/// letters where it is as wide as a cell.
+#[test]
+fn even_cells() {
+    let wide = "I N T E R L O C K   S E V E N\n";
+    for pitch in [&b""[..], b"\x1BM", b"\x1Bg", b"\x0F", b"\x1BM\x0F"] {
+        let input = [pitch, b"\x1BW\x01INTERLOCK SEVEN\r\n"].concat();
+        assert_eq!(prints(&[], &input), wide, "{}", pitch.escape_ascii());
+    }
+    assert_eq!(
+        prints(&["--cpi", "10"], b"\x1BM\x1BW\x01LOCK UP"),
+        "LOCK    UP\n"
+    );
+    assert_eq!(prints(&[], b"\x1B \x12HELD"), "H E L D\n");
+    assert_eq!(prints(&[], b"\x1B \x05\x1BW\x01HELD"), "H E L D\n");
+    assert_eq!(prints(&[], b"\x1B \x24HELD"), "H  E  L  D\n");
+}
+
+/// In a grid that was asked for words in columns stay there, and are cut where the
+/// next one leaves no room; running text goes on to the right; a finer grid has
+/// room for all.
 #[test]
 fn words_without_room() {
+    let ten = ["--cpi", "10"];
     let table = b"\x0F\x1BD\x0A\x14\x1E\x00RELEASED\tLOCKED\tRELEASED\tHELD";
-    let came = prints_and_says(&[], table, CROWDED);
+    let came = prints_and_says(&ten, table, CROWDED);
     assert_eq!(came, "RELEA…LOCKE…RELEA…HELD\n");
     let came = prints(&["--cpi", "17"], table);
     assert_eq!(came, "RELEASED  LOCKED    RELEASED  HELD\n");
     let running = b"\x1BMTWELVE TO THE INCH";
-    let came = prints_and_says(&[], running, CROWDED);
+    let came = prints_and_says(&ten, running, CROWDED);
     assert_eq!(came, "TWELVE»TO»THE»INCH\n");
     let came = prints(&["--cpi", "12"], running);
     assert_eq!(came, "TWELVE TO THE INCH\n");
     // Frames say it too.
-    let came = prints(&["--follow"], running);
+    let came = prints(&["--follow", "--cpi=10"], running);
     let said = CROWDED.strip_prefix("card: ").unwrap().trim_end();
     assert_eq!(came, format!("TWELVE»TO»THE»INCH\n({said})\n\x0C\n"));
     // No letter is lost without a sign, even before the first column.
     let close = b"\x1BM\x0FA\x1B\\\x07\x00B\x1B$\x3C\x00CCC";
-    let came = prints_and_says(&[], close, CROWDED);
+    let came = prints_and_says(&ten, close, CROWDED);
     assert_eq!(came, "A»B       CCC\n");
 }
 
@@ -238,7 +277,8 @@ fn words_without_room() {
 fn running_text_under_a_heading() {
     let heading = "SLOT      1         2         3         4         5";
     let line = b"\r\n\x1B$\x3C\x00\x0FLOCKED-SINCE-MON LOCKED-SINCE-TUE RELEASED";
-    let came = prints_and_says(&[], &[heading.as_bytes(), line].concat(), CROWDED);
+    let input = [heading.as_bytes(), line].concat();
+    let came = prints_and_says(&["--cpi", "10"], &input, CROWDED);
     let moved = "          LOCKED-SINCE-MON»LOCKED-SINCE-TUE»RELEASED\n";
     assert_eq!(came, format!("{heading}\n{moved}"));
 }
@@ -260,7 +300,7 @@ fn letters_set_one_by_one() {
     let set = |(place, letter): (u8, &u8)| [0x1B, b'$', 6 * place, 0, *letter];
     let mut input = b"\x0F".to_vec();
     input.extend((10..).zip(b"RELEASED").flat_map(set));
-    assert_eq!(prints(&[], &input), "          RELEASED\n");
+    assert_eq!(prints(&["--cpi=10"], &input), "          RELEASED\n");
     assert_eq!(
         prints(&["--slots", "1in"], &input),
         slot_lines(&["RELEASED"])
@@ -339,16 +379,212 @@ fn cut_anywhere() {
     assert_eq!(String::from_utf8(output.stdout).unwrap(), text);
 }
 
-/// The files are read one after the other, as one.
+/// Files are captures of their own, under their names; joined they are one stream.
 #[test]
 fn several_files() {
     let folder = Folder::new("card-several");
     let (one, two) = (folder.0.join("one"), folder.0.join("two"));
-    fs::write(&one, b"A\x1B").unwrap();
+    // The first is cut off within an escape.
+    fs::write(&one, b"A\x1BW\x01\x1B").unwrap();
     fs::write(&two, b"EB").unwrap();
-    let words = [one.to_str().unwrap(), "--", two.to_str().unwrap()];
-    assert_eq!(prints(&words, b""), "AB\n");
-    assert_eq!(prints(&["--", two.to_str().unwrap(), "-"], b"C"), "EBC\n");
+    let (one, two) = (one.to_str().unwrap(), two.to_str().unwrap());
+    assert_eq!(
+        prints(&[one, "--", two], b""),
+        format!("==== {one} ====\nA\n==== {two} ====\nEB\n")
+    );
+    assert_eq!(prints(&["--join", one, "--", two], b""), "AB\n");
+    assert_eq!(prints(&["--join", "--", two, "-"], b"C"), "EBC\n");
+    assert_eq!(
+        prints(&["--slots", "0", two, "-"], b"C"),
+        format!(
+            "==== {two} ====\n{}==== standard input ====\n{}",
+            slot_lines(&["EB"]),
+            slot_lines(&["C"])
+        )
+    );
+    // What is passed over is told of each.
+    let said = "card: standard input: passed over: 1 unlisted (first at byte 1)\n";
+    let came = prints_and_says(&[two, "-"], b"C\x01", said);
+    assert!(came.ends_with("\nC\n"), "{came}");
+    // Frames have the name too.
+    let came = prints(&["--follow", two, "-"], b"C");
+    assert!(
+        came.ends_with("==== standard input ====\nC\n\x0C\n"),
+        "{came}"
+    );
+}
+
+/// What was passed over is told at the end, by its reasons, with the places of the
+/// first; it is no failure, unless by `--strict`.
+#[test]
+fn passed_over() {
+    let input =
+        b"A\x01\x1B$\xFF\xFF\x01\x1BA\x56\x1BD\x00\t\x1BD\x0A\x00\x1BQ\x02\x1BW\x01\x1Bl\x01\
+                  \x1B \x7F\x1B?";
+    let said = "card: passed over: 3 unlisted (first at byte 1), 1 not allowed (first at byte 9), \
+                2 past limits (first at byte 5), 1 without a stop (first at byte 13)\n";
+    for words in [&[][..], &["--records"], &["--follow"], &["--json"]] {
+        let output = run(words, input);
+        assert_eq!(String::from_utf8_lossy(&output.stderr), said, "{words:?}");
+        assert_eq!(output.status.code(), Some(0), "{words:?}");
+        let strict = run(&[words, &["--strict"]].concat(), input);
+        assert_eq!(strict.stdout, output.stdout, "{words:?}");
+        assert_eq!(strict.stderr, output.stderr, "{words:?}");
+        assert_eq!(strict.status.code(), Some(1), "{words:?}");
+    }
+    prints(&["--strict"], b"A");
+    // Far on, and by every reason.
+    let many = [
+        &b"A\r".repeat(100_000)[..],
+        b"\x01",
+        &b"B\r".repeat(100_000),
+    ]
+    .concat();
+    let said = "card: passed over: 1 unlisted (first at byte 200000)\n";
+    assert_eq!(prints_and_says(&[], &many, said), "B\n");
+    let said = "card: passed over: 1 without room (first at byte 5)\n";
+    prints_and_says(&["--width=7200"], b"\x1B \x7F\x1BW\x01A", "");
+    prints_and_says(
+        &[],
+        b"\x1BQ\x01\x1BW\x01A",
+        &said.replace("byte 5", "byte 6"),
+    );
+}
+
+/// Records in words are the worked cases' own.
+#[test]
+fn records_in_words() {
+    let cases = Path::new(env!("CARGO_MANIFEST_DIR")).join("../cases");
+    let mut held = 0;
+    for file in [
+        "cards.txt",
+        "table.txt",
+        "images.txt",
+        "margins.txt",
+        "feeds.txt",
+    ] {
+        let text = fs::read_to_string(cases.join(file)).unwrap();
+        for case in text.split("\ncase ").skip(1) {
+            let (name, case) = case.split_once('\n').unwrap();
+            let case = case.split("\nend").next().unwrap();
+            let (mut words, mut input, mut records) = (vec!["--records"], vec![], String::new());
+            let mut plain = true;
+            for line in case.lines() {
+                match line.split_once(' ').unwrap_or((line, "")) {
+                    ("dots", dots) => words.extend(["--dots", dots]),
+                    ("width", width) => words.extend(["--width", width]),
+                    ("auto-feed", "on") => words.push("--auto-feed"),
+                    ("auto-feed", _) => {}
+                    ("input", bytes) => {
+                        let byte = |word| u8::from_str_radix(word, 16).unwrap();
+                        input.extend(bytes.split_whitespace().map(byte));
+                    }
+                    ("TX" | "IM" | "LN" | "CL" | "NO", _) => records += &format!("{line}\n"),
+                    ("#", _) | ("", _) => {}
+                    _ => plain = false,
+                }
+            }
+            if plain {
+                held += 1;
+                let came = run(&words, &input).stdout;
+                assert_eq!(String::from_utf8(came).unwrap(), records, "{file}: {name}");
+            }
+        }
+    }
+    assert!(held > 100, "{held}");
+}
+
+#[test]
+fn json() {
+    let input = b"\x1BR\x02[\"\x1BK\x01\x00\x80\x1B*\x27\x01\x00\x01\x02\x03\n\x1Bl\x00\x01";
+    let said = "card: passed over: 1 unlisted (first at byte 22)\n";
+    let tx = "\"record\":\"TX\",\"column\":";
+    let lines = [
+        &format!("{{{tx}0,\"row\":0,\"byte\":91,\"font\":0,\"style\":0,\"country\":2,\"advance\":360,\"character\":\"Ä\"}}"),
+        &format!("{{{tx}30,\"row\":0,\"byte\":34,\"font\":0,\"style\":0,\"country\":2,\"advance\":360,\"character\":\"\\\"\"}}"),
+        "{\"record\":\"IM\",\"column\":60,\"row\":0,\"byte\":128,\"part\":0,\"advance\":60}",
+        "{\"record\":\"IM\",\"column\":65,\"row\":0,\"byte\":1,\"part\":1,\"advance\":20}",
+        "{\"record\":\"IM\",\"column\":65,\"row\":0,\"byte\":2,\"part\":2,\"advance\":20}",
+        "{\"record\":\"IM\",\"column\":65,\"row\":0,\"byte\":3,\"part\":3,\"advance\":20}",
+        "{\"record\":\"LN\",\"row\":50,\"pages\":0}",
+        "{\"record\":\"CL\"}",
+        "{\"record\":\"NO\",\"byte\":1,\"reason\":1}\n",
+    ];
+    assert_eq!(prints_and_says(&["--json"], input, said), lines.join("\n"));
+    let slots = b"\x1B$\x3C\x00HELD \"NOW\"";
+    let came = prints(&["--json", "--slots", "10,20,30"], slots);
+    let lines = [
+        "{\"slot\":1,\"electricians\":0,\"text\":\"HELD \\\"NOW\\\"\",\"notes\":[]}",
+        "{\"slot\":2,\"electricians\":1,\"text\":null,\"notes\":[]}",
+        "{\"slot\":3,\"electricians\":2,\"text\":null,\"notes\":[]}\n",
+    ];
+    assert_eq!(came, lines.join("\n"));
+    let came = prints(&["--json", "--slots=11"], slots);
+    assert!(
+        came.ends_with("\"notes\":[\"begins before the slot\"]}\n"),
+        "{came}"
+    );
+    // Of several files each object has its own's name.
+    let folder = Folder::new("card-json");
+    let name = folder.0.join("one \"A\"");
+    fs::write(&name, b"\n").unwrap();
+    let came = prints(&["--json", name.to_str().unwrap(), "-"], b"\n");
+    assert!(came.contains("one \\\"A\\\"\",\"record\":\"LN\""), "{came}");
+    assert!(
+        came.contains("\n{\"file\":\"standard input\",\"record\""),
+        "{came}"
+    );
+}
+
+/// Empty sheets are not shown, but count.
+#[test]
+fn empty_sheets() {
+    assert_eq!(
+        prints(&[], b"\x0C\x0CA\x0C\x0CB"),
+        "---- page 3 ----\nA\n---- page 5 ----\nB\n"
+    );
+    // A new top of an empty page is the same sheet.
+    assert_eq!(prints(&[], b"\x1B@\x1BC\x00\x0B\x1B@A"), "A\n");
+    assert_eq!(prints(&[], b"A\x1B@\x1B@B"), "A\n---- page 2 ----\nB\n");
+    let came = prints(&["--follow"], b"\x0CA\x0C");
+    assert_eq!(came, "---- page 2, turned ----\nA\n\x0C\n");
+}
+
+/// Styles where they are asked for; an underlined blank of double width is
+/// underlined whole.
+#[test]
+fn colors() {
+    let input = b"\x1BEA\x1BF";
+    assert_eq!(prints(&["--color=always"], input), "\x1B[0;1mA\x1B[0m\n");
+    assert_eq!(prints(&["--color=auto"], input), "A\n");
+    assert_eq!(prints(&["--color", "never"], input), "A\n");
+    let wide = b"\x1BW\x01\x1B-\x01A B";
+    let came = prints(&["--color=always"], wide);
+    assert_eq!(came, "\x1B[0;4m\u{FF21}  \u{FF22}\x1B[0m\n");
+}
+
+/// A file is followed as it grows.
+#[test]
+fn a_file_that_grows() {
+    let folder = Folder::new("card-grows");
+    let name = folder.0.join("file");
+    fs::write(&name, b"A").unwrap();
+    let mut command = card(&["--follow", name.to_str().unwrap()]);
+    let mut child = command.stdout(Stdio::piped()).spawn().unwrap();
+    let _limit = Limit::new(&child);
+    let mut lines = BufReader::new(child.stdout.take().unwrap()).lines();
+    let mut until = |words: &str| {
+        let found = lines.find(|line| line.as_ref().unwrap() == words);
+        assert!(found.is_some(), "{words}");
+    };
+    until("A");
+    let mut file = fs::OpenOptions::new().append(true).open(&name).unwrap();
+    for (piece, words) in [("B", "AB"), ("C\x1B", "ABC"), ("ED", "ABCD")] {
+        file.write_all(piece.as_bytes()).unwrap();
+        until(words);
+    }
+    child.kill().unwrap();
+    child.wait().unwrap();
 }
 
 /// The lines of the slots of which these words stand there.
@@ -820,15 +1056,22 @@ fn help_and_version() {
         "--svg",
         "--slots",
         "--slot-stops",
+        "--records",
+        "--json",
         "--follow",
-        "--help",
-        "--version",
+        "--join",
+        "--strict",
+        "--color",
+        "-h, --help",
+        "-V, --version",
     ] {
         assert!(help.contains(&format!("\n  {option} ")), "{option}");
     }
     assert!(help.lines().all(|line| line.len() <= 90));
     let version = format!("card {}\n", env!("CARGO_PKG_VERSION"));
     assert_eq!(prints(&["--version", "--dots", "1"], b""), version);
+    assert_eq!(prints(&["-V"], b""), version);
+    assert_eq!(prints(&["-h"], b""), help);
 }
 
 #[test]
@@ -838,7 +1081,7 @@ fn settings() {
     assert_eq!(prints(&[], b"\x1B$\x01\x00A\rB"), "B\n");
     assert_eq!(prints(&["--follow"], b"A\nB"), "A\nB\n\x0C\n");
     assert_eq!(prints(&["--cpi", "5"], b"A   B   C"), "A B C\n");
-    assert_eq!(prints(&["--cpi=20"], b"AB C"), "A B   C\n");
+    assert_eq!(prints(&["--cpi=20"], b"AB C"), "AB    C\n");
     assert_eq!(prints(&["--dots=204", "--dots", "000000203"], b"A"), "A\n");
     assert_eq!(prints(&[], b""), "");
     assert_eq!(prints(&[], b" \x0C\x0C"), "\n");
@@ -856,7 +1099,8 @@ fn refused(words: &[&str], problem: &str) {
 
 #[test]
 fn bad_values() {
-    let bad: [(&str, &str, &[&str]); 5] = [
+    let bad: [(&str, &str, &[&str]); 6] = [
+        ("--color", "always, auto or never", &["", "yes", "ALWAYS"]),
         (
             "--dots",
             "203 or 300",
@@ -920,6 +1164,10 @@ fn bad_words() {
     for flag in [
         "--auto-feed",
         "--slot-stops",
+        "--records",
+        "--json",
+        "--join",
+        "--strict",
         "--follow",
         "--help",
         "--version",
@@ -931,8 +1179,23 @@ fn bad_words() {
         refused(&[word, "300"], &problem);
     }
     refused(&["-a\nb"], "-a\\nb is no option; see card --help");
-    let problem = "--follow draws on the screen, and takes no --svg";
-    refused(&["--follow", "--svg", "x"], problem);
+    let problem = "--follow draws on the screen, and takes no --svg, --records or --json";
+    for words in [&["--svg", "x"][..], &["--records"], &["--json"]] {
+        refused(&[&["--follow"], words].concat(), problem);
+    }
+    let problem = "--svg writes pictures, and takes no --slots, --records or --json";
+    for words in [
+        &["--slots=1"][..],
+        &["--slot-stops"],
+        &["--records"],
+        &["--json"],
+    ] {
+        refused(&[&["--svg", "x"], words].concat(), problem);
+    }
+    refused(
+        &["--records", "--slots=1"],
+        "--records takes no slots; --json does",
+    );
 }
 
 /// A failure is one line on standard error that begins so, and status 1.
@@ -955,10 +1218,10 @@ fn reading_and_writing_failed() {
     failed(run(&["no\nsuch"], b""), "no\\nsuch");
     failed(run(&[""], b""), "''");
     // What was read before is shown.
-    let output = run(&["-", name], b"A\x0CB");
+    let output = run(&["--join", "-", name], b"A\x0CB");
     assert_eq!(output.stdout, b"A\n---- page 2 ----\nB\n");
     failed(output, name);
-    let output = run(&["--slots", "0", "-", name], b"HELD");
+    let output = run(&["--join", "--slots", "0", "-", name], b"HELD");
     assert_eq!(output.stdout, slot_lines(&["HELD"]).as_bytes());
     failed(output, name);
     failed(run(&["--follow", name], b""), name);

@@ -223,7 +223,8 @@ fn wide_over_two_cells() {
     assert_eq!(shown(card(&[]), input), "\u{FF21}  B\r\n");
     assert_eq!(shown(card(&["--cpi", "5"]), input), "A B\r\n");
     let input = b"\x0F\x1BW\x01A\x1BW\x00   B";
-    assert_eq!(shown(card(&[]), input), "A  B\r\n");
+    assert_eq!(shown(card(&["--cpi", "10"]), input), "A  B\r\n");
+    assert_eq!(shown(card(&[]), input), "\u{FF21}   B\r\n");
 }
 
 const HOME: &str = "\x1B[H";
@@ -298,6 +299,41 @@ fn slots_on_a_small_screen() {
         drop(stdin);
         assert_eq!(end(&mut child).code(), Some(0));
     }
+}
+
+/// A frame is drawn anew where the window has another size, on a cleared screen.
+#[test]
+fn another_size() {
+    let mut terminal = Terminal::new(24, 80);
+    let (mut child, mut stdin) = start(&terminal, card(&["--follow"]));
+    stdin.write_all(b"\x1BM1234567890").unwrap();
+    terminal.until(&format!("{HOME}{}{BELOW}", over(&["1234567890"])));
+    terminal.stty(&["rows", "24", "cols", "6"]);
+    let clear = "\x1B[0m\x1B[2J";
+    terminal.until(&format!("{clear}{HOME}{}{BELOW}", over(&["12345…"])));
+    terminal.stty(&["rows", "24", "cols", "40"]);
+    terminal.until(&format!("{clear}{HOME}{}{BELOW}", over(&["1234567890"])));
+    drop(stdin);
+    assert_eq!(end(&mut child).code(), Some(0));
+}
+
+/// The grid is no finer than the screen has room for.
+#[test]
+fn a_grid_for_the_screen() {
+    let input = [
+        &b"\x1BD\x0A\x14\x1E\x28\x32\x3C\x46\x00"[..],
+        b"\x1BMA\tB\tC\tD\tE\tF\tG\tH",
+    ]
+    .concat();
+    let fine = "A         B         C         D         E         F         G         H\r\n";
+    assert_eq!(shown(card(&[]), &input), fine);
+    let mut terminal = Terminal::new(24, 65);
+    let (mut child, mut stdin) = start(&terminal, card(&[]));
+    stdin.write_all(&input).unwrap();
+    drop(stdin);
+    assert_eq!(end(&mut child).code(), Some(0));
+    let coarse = "A       B       C        D       E       F        G       H\r\n";
+    assert_eq!(terminal.all(), coarse);
 }
 
 #[test]

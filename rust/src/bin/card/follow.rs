@@ -5,12 +5,14 @@
 //! style, so that the program may be ended at any time. Elsewhere frames follow
 //! each other, with a form feed at the end of each.
 
-use crate::input::Input;
+use crate::input::{self, Input};
 use crate::options::Options;
 use crate::page::Page;
 use crate::reader::Reader;
 use crate::text::Look;
-use crate::{care, look, slots, terminal, text, unwritten, Failure, Outcome, PIECE};
+use crate::{
+    care, complain, inputs, look, slots, terminal, text, unwritten, Failure, Outcome, PIECE,
+};
 use ierbulosc::State;
 use std::io::{self, Write};
 use std::sync::mpsc::{sync_channel, Receiver, RecvTimeoutError, SyncSender};
@@ -22,84 +24,123 @@ const PAUSE: Duration = Duration::from_millis(40);
 /// The pieces of input that may wait to be read.
 const WAITING: usize = 4;
 
+/// How often a window is asked for its size, and a file for more.
+const ASKED: Duration = Duration::from_millis(100);
+
 /// What is drawn.
 struct Screen {
     options: Options,
     look: Look,
     terminal: bool,
-    /// The last page that was turned, and how many were.
+    /// The name of the capture, where there are several.
+    name: Option<String>,
+    /// The last page that was turned.
     turned: Option<String>,
-    pages: u64,
-    /// What was drawn last, and when.
+    /// What was drawn last, when, and on how large a screen.
     frame: String,
     drawn: Instant,
+    size: Option<(usize, usize)>,
 }
 
-/// Reads all, and draws what is there whenever something has come.
+/// What the input sends.
+enum Sent {
+    /// A capture begins.
+    Start(String),
+    Bytes(Vec<u8>),
+    Failed(Failure),
+}
+
+/// Reads all, and draws what is there whenever something has come, or the window
+/// has another size.
 pub fn run(options: Options) -> Outcome<()> {
-    let input = Input::new(options.files.clone())?;
+    let mut inputs = inputs(&options)?;
+    let several = inputs.len() > 1;
+    // Those before the last end, so that it is reached.
+    let last = inputs.len() - 1;
+    inputs[..last]
+        .iter_mut()
+        .for_each(|input| input.may_grow = false);
     let (sender, pieces) = sync_channel(WAITING);
-    thread::spawn(move || send(input, &sender));
+    thread::spawn(move || {
+        inputs
+            .into_iter()
+            .try_for_each(|input| send(input, &sender))
+    });
     let mut reader = Reader::new(&options.settings, care(&options));
     let mut screen = Screen::new(options);
     screen.draw(&mut reader)?;
     // When the frame was drawn to which something has come since.
     let mut stale = None;
     loop {
-        match next(&pieces, stale) {
-            Next::Piece(piece) => {
-                let piece = piece.map_err(|failure| screen.end(&mut reader, failure))?;
+        match next(&pieces, stale, screen.terminal) {
+            Next::Sent(Sent::Start(name)) => {
+                screen.tell(&reader);
+                reader = Reader::new(&screen.options.settings, care(&screen.options));
+                screen.begin(several.then(|| input::shown(&name)));
+            }
+            Next::Sent(Sent::Bytes(piece)) => {
                 reader.read(&piece, &mut |page, state| screen.turn(page, state))?;
                 stale = stale.or(Some(screen.drawn));
             }
+            Next::Sent(Sent::Failed(failure)) => return Err(screen.end(&mut reader, failure)),
             Next::Pause => {
                 screen.draw(&mut reader)?;
                 stale = None;
             }
-            Next::End => return screen.draw(&mut reader),
+            Next::End => {
+                screen.draw(&mut reader)?;
+                let passed = screen.tell(&reader);
+                let strict = screen.options.strict && passed;
+                return if strict { Err(Failure::Passed) } else { Ok(()) };
+            }
         }
     }
 }
 
 /// What comes next.
 enum Next {
-    /// Input, or why it could not be read.
-    Piece(Outcome<Vec<u8>>),
+    Sent(Sent),
     /// Nothing, and a frame is due.
     Pause,
     /// The end of the input.
     End,
 }
 
-/// What comes next; a frame is due some time after one that is stale.
-fn next(pieces: &Receiver<Outcome<Vec<u8>>>, stale: Option<Instant>) -> Next {
-    let Some(drawn) = stale else {
-        return pieces.recv().map_or(Next::End, Next::Piece);
+/// What comes next; a frame is due some time after one that is stale, and on a
+/// terminal, whose window may have changed, now and then.
+fn next(pieces: &Receiver<Sent>, stale: Option<Instant>, terminal: bool) -> Next {
+    let rest = match stale {
+        Some(drawn) => PAUSE.saturating_sub(drawn.elapsed()),
+        None if terminal => ASKED,
+        None => return pieces.recv().map_or(Next::End, Next::Sent),
     };
-    let rest = PAUSE.saturating_sub(drawn.elapsed());
     if rest.is_zero() {
         return Next::Pause;
     }
     match pieces.recv_timeout(rest) {
-        Ok(piece) => Next::Piece(piece),
+        Ok(sent) => Next::Sent(sent),
         Err(RecvTimeoutError::Timeout) => Next::Pause,
         Err(RecvTimeoutError::Disconnected) => Next::End,
     }
 }
 
-/// Sends the input on, in pieces as they come.
-fn send(mut input: Input, pieces: &SyncSender<Outcome<Vec<u8>>>) {
+/// Sends a capture on, in pieces as they come; none if it is not to go on. A file
+/// that may grow does not end.
+fn send(mut input: Input, pieces: &SyncSender<Sent>) -> Option<()> {
     let mut room = vec![0; PIECE];
+    pieces.send(Sent::Start(input.name.clone())).ok()?;
     loop {
-        let piece = match input.read(&mut room) {
-            Ok(0) => return,
-            Ok(count) => Ok(room[..count].to_vec()),
-            Err(failure) => Err(failure),
+        let sent = match input.read(&mut room) {
+            Ok(0) if input.may_grow => {
+                thread::sleep(ASKED);
+                continue;
+            }
+            Ok(0) => return Some(()),
+            Ok(count) => Sent::Bytes(room[..count].to_vec()),
+            Err(failure) => Sent::Failed(failure),
         };
-        let last = piece.is_err();
-        if pieces.send(piece).is_err() || last {
-            return;
-        }
+        let last = matches!(sent, Sent::Failed(_));
+        pieces.send(sent).ok().filter(|()| !last)?;
     }
 }
 
@@ -109,18 +150,34 @@ impl Screen {
             look: look(&options),
             options,
             terminal: terminal::is_able(&io::stdout()),
+            name: None,
             turned: None,
-            pages: 0,
             frame: String::new(),
             drawn: Instant::now(),
+            size: None,
         }
+    }
+
+    /// Another capture begins.
+    fn begin(&mut self, name: Option<String>) {
+        (self.name, self.turned) = (name, None);
+    }
+
+    /// Tells what was passed over; whether something was.
+    fn tell(&self, reader: &Reader) -> bool {
+        let words = reader.passed().words();
+        match (&words, &self.name) {
+            (Some(words), Some(name)) => complain(&format!("{name}: {words}")),
+            (Some(words), None) => complain(words),
+            (None, _) => {}
+        }
+        words.is_some()
     }
 
     /// A page is turned: it stays on the screen until the next has something on
     /// it.
     fn turn(&mut self, page: &Page, state: &State) -> Outcome<()> {
-        self.pages += 1;
-        let mut turned = format!("---- page {}, turned ----\n", self.pages);
+        let mut turned = format!("---- page {}, turned ----\n", page.number);
         self.lines(page, state, &mut turned);
         self.turned = Some(turned);
         Ok(())
@@ -136,15 +193,18 @@ impl Screen {
         self.drawn = Instant::now();
         reader.settle();
         let size = self.terminal.then(terminal::size).flatten();
+        self.look.columns = size.map(|(_, columns)| columns);
         let mut frame = self.frame(reader);
         if let Some((rows, columns)) = size {
             frame = fitting(&frame, rows - 1, columns);
         }
-        if frame == self.frame {
+        let resized = size != self.size;
+        if frame == self.frame && !resized {
             return Ok(());
         }
+        self.size = size;
         let shown = if self.terminal {
-            over(&frame, self.frame.is_empty())
+            over(&frame, self.frame.is_empty() || resized)
         } else {
             format!("{frame}\x0C\n")
         };
@@ -166,12 +226,17 @@ impl Screen {
     fn frame(&self, reader: &Reader) -> String {
         let (page, state) = (reader.page(), reader.state());
         let mut lines = String::new();
+        if let Some(name) = &self.name {
+            lines += &format!("==== {name} ====\n");
+        }
         match &self.turned {
             Some(turned) if page.is_empty() => lines.push_str(turned),
             _ => self.lines(page, state, &mut lines),
         }
         if let Some(asked) = &self.options.slots {
-            if !slots::draw(page, state, asked, &mut lines) {
+            let answers = slots::answers(page, state, asked);
+            slots::draw(&answers, &mut lines);
+            if !answers.in_step {
                 lines += &format!("({})\n", slots::OUT_OF_STEP);
             }
         }

@@ -565,7 +565,10 @@ impl Card {
         assert!(reader.read(&self.writer.bytes, &mut show).is_ok());
         reader.settle();
         let mut text = String::new();
-        slots::draw(reader.page(), reader.state(), slots, &mut text);
+        slots::draw(
+            &slots::answers(reader.page(), reader.state(), slots),
+            &mut text,
+        );
         let answer = |line: &str| {
             line.split_once(")  ")
                 .map_or(String::new(), |(_, answer)| answer.into())
@@ -626,14 +629,10 @@ struct Seen {
 /// the card's own slots are others, also against what these have.
 fn hold(card: &Card, asked: &Slots, places: &[u32], own: Option<&[u32]>, seen: &mut Seen) {
     // A place in inches is not exact.
-    let inches = matches!(
-        asked,
-        Slots::Places {
-            named: Named::Inches,
-            ..
-        }
-    );
-    let slack = u32::from(inches);
+    let (places, slack) = match asked {
+        Slots::Places { units, named } => (&units[..], u32::from(*named == Named::Inches)),
+        Slots::Stops => (places, 0),
+    };
     let truth = |places: &[u32], slot: usize| {
         let end = places.get(slot + 1).copied().unwrap_or(card.width);
         card.writer.truth(places[slot], end, slack)

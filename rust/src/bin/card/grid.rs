@@ -1,6 +1,6 @@
 //! The letters of a line in a grid of cells.
 
-use crate::letters::{DOUBLE_WIDTH, UNDERLINE};
+use crate::letters::{DOUBLE_WIDTH, REDUCED, UNDERLINE};
 use crate::line::{inked, shown, Letter};
 
 /// A cell: a letter with its style, or nothing.
@@ -47,13 +47,9 @@ impl Grid {
         ((2 * u32::from(letter.column) + 1) * self.cpi / (2 * self.across)) as usize
     }
 
-    /// Whether a letter is of double width and, standing in this cell, goes past
-    /// the middle of the next.
-    fn takes_two(self, letter: &Letter, cell: usize) -> bool {
-        let across = u64::from(self.across);
-        let end = u64::from(letter.column) * 3_600 + u64::from(letter.advance) * across;
-        let middle = (2 * cell as u64 + 3) * 3_600 * across;
-        letter.style & DOUBLE_WIDTH != 0 && 2 * end * u64::from(self.cpi) > middle
+    /// Whether a letter is of double width and as wide as two cells.
+    fn takes_two(self, letter: &Letter) -> bool {
+        letter.style & DOUBLE_WIDTH != 0 && u32::from(letter.advance) * self.cpi >= 2 * 3_600
     }
 
     /// Sets the letters of a line into its cells; whether each word is whole and
@@ -83,43 +79,50 @@ impl Grid {
         at_places
     }
 
-    /// Sets a word behind what is there. A letter that finds its cell taken by
-    /// the one before it goes to the next; one that is less than two cells from
-    /// it does too, since a free cell would read as a blank.
+    /// Sets a word behind what is there: its letters are beside each other, since a
+    /// free cell would read as a blank, unless there is space of a cell between
+    /// them.
     fn set(self, word: &[Letter], cells: &mut Vec<Cell>) {
         for (place, letter) in word.iter().enumerate() {
-            let natural = self.cell(letter);
-            give_way(cells, natural);
-            let mut cell = natural.max(cells.len());
-            if place > 0 && self.is_close(&word[place - 1], letter) {
-                cell = cells.len();
-            }
+            let cell = match place {
+                0 => {
+                    give_way(cells, self.cell(letter));
+                    self.cell(letter).max(cells.len())
+                }
+                _ => cells.len() + self.space(&word[place - 1], letter),
+            };
             cells.resize(cell, EMPTY);
             cells.push(Cell {
                 sign: letter.sign,
-                style: letter.style,
+                style: letter.style & !REDUCED,
                 second: false,
             });
-            if self.takes_two(letter, cell) {
+            if self.takes_two(letter) {
                 cells.push(SECOND);
             }
         }
     }
 
-    /// Whether a letter is less than two cells, but for a quarter, to the right
-    /// of another.
-    fn is_close(self, before: &Letter, letter: &Letter) -> bool {
-        let apart = u32::from(letter.column - before.last);
-        4 * apart * self.cpi < 7 * self.across
+    /// The free cells between two letters of a word; a quarter is for rounding.
+    fn space(self, before: &Letter, letter: &Letter) -> usize {
+        let across = i64::from(self.across);
+        let apart = i64::from(letter.column) - i64::from(before.last);
+        let space = apart * 3_600 - i64::from(before.own_width()) * across;
+        let quarters = 4 * space * i64::from(self.cpi) / (3_600 * across);
+        (quarters.max(0) as usize + 1) / 4
     }
 
     /// Underlines the cells of underlined blanks.
     fn underline(self, letters: &[Letter], cells: &mut Vec<Cell>) {
         let underlined = |letter: &&Letter| letter.is_blank() && letter.style & UNDERLINE != 0;
         for blank in letters.iter().filter(underlined) {
-            let cell = cell_of(cells, self.cell(blank));
-            if cell.sign == ' ' {
-                cell.style = UNDERLINE;
+            let first = self.cell(blank);
+            let last = first + usize::from(self.takes_two(blank));
+            for place in first..=last {
+                let cell = cell_of(cells, place);
+                if cell.sign == ' ' && !cell.second {
+                    cell.style = UNDERLINE;
+                }
             }
         }
     }

@@ -6,13 +6,17 @@ use std::fs::{self, File};
 use std::io::{self, ErrorKind, Read};
 use std::os::fd::AsFd;
 
-/// The files, one after the other.
+/// The files of a capture, one after the other.
 pub struct Input {
+    /// What it is called.
+    pub name: String,
     /// Those that are not open yet, the last one first.
     files: Vec<OsString>,
-    open: Option<(String, Box<dyn Read + Send>)>,
+    open: Option<(String, Source)>,
     /// All their bytes, if they are known.
     pub total: Option<u64>,
+    /// Whether the last one is a file, which may grow.
+    pub may_grow: bool,
 }
 
 /// The word for standard input.
@@ -24,20 +28,24 @@ impl Input {
         if files.is_empty() {
             files.push(STANDARD.into());
         }
-        let mut total = Some(0);
+        let (mut total, mut may_grow) = (Some(0), false);
         for file in &files {
             let length = length(file).map_err(|error| failed(name(file), error))?;
+            may_grow = length.is_some();
             total = total.zip(length).map(|(total, length)| total + length);
         }
         files.reverse();
         Ok(Input {
+            name: title(&files[0]),
             files,
             open: None,
             total,
+            may_grow,
         })
     }
 
-    /// Reads bytes, as many as come; none at the end of all files.
+    /// Reads bytes, as many as come; none at the end of all files. The last one
+    /// stays open, so that more may come.
     pub fn read(&mut self, room: &mut [u8]) -> Outcome<usize> {
         loop {
             let Some((name, file)) = &mut self.open else {
@@ -48,6 +56,7 @@ impl Input {
                 continue;
             };
             match file.read(room) {
+                Ok(0) if self.files.is_empty() => return Ok(0),
                 Ok(0) => self.open = None,
                 Ok(count) => return Ok(count),
                 Err(error) if error.kind() == ErrorKind::Interrupted => {}
@@ -57,15 +66,25 @@ impl Input {
     }
 }
 
-/// What a file is called where something is wrong with it.
-fn name(file: &OsStr) -> String {
+/// The name of a file.
+fn title(file: &OsStr) -> String {
     if file == STANDARD {
         return "standard input".into();
     }
-    match file.to_string_lossy().escape_debug().to_string() {
+    file.to_string_lossy().into_owned()
+}
+
+/// What a file is called in a line of text.
+pub fn shown(title: &str) -> String {
+    match title.escape_debug().to_string() {
         empty if empty.is_empty() => "''".into(),
-        name => name,
+        shown => shown,
     }
+}
+
+/// What a file is called where something is wrong with it.
+fn name(file: &OsStr) -> String {
+    shown(&title(file))
 }
 
 /// The length of a file, if it is one that has a length.
@@ -78,7 +97,10 @@ fn length(file: &OsStr) -> io::Result<Option<u64>> {
     Ok(about.is_file().then_some(about.len()))
 }
 
-fn open(file: &OsStr) -> Outcome<(String, Box<dyn Read + Send>)> {
+/// Where bytes come from.
+type Source = Box<dyn Read + Send>;
+
+fn open(file: &OsStr) -> Outcome<(String, Source)> {
     let name = name(file);
     if file == STANDARD {
         return Ok((name, Box::new(io::stdin())));

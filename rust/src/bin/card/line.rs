@@ -2,7 +2,8 @@
 //! other.
 
 use crate::letters::{
-    character, is_blank, BOLD, DOUBLE_STRIKE, DOUBLE_WIDTH, ITALIC, PROPORTIONAL, UNDERLINE,
+    character, is_blank, BOLD, DOUBLE_STRIKE, DOUBLE_WIDTH, ITALIC, PROPORTIONAL, REDUCED,
+    UNDERLINE,
 };
 use crate::page::Page;
 use ierbulosc::Record;
@@ -10,8 +11,12 @@ use ierbulosc::Record;
 /// The width of the columns of tab stops in proportional letters, in units.
 const PROPORTIONAL_COLUMN: u16 = 360;
 
-/// The style bits that a terminal shows.
-const SHOWN: u16 = BOLD | ITALIC | UNDERLINE | DOUBLE_WIDTH;
+/// The widths of letters without spacing, the widest first.
+const WIDTHS: [u16; 3] = [360, 300, 240];
+const REDUCED_WIDTHS: [u16; 3] = [240, 216, 180];
+
+/// The style bits that count: those that a terminal shows, and one of the width.
+const KEPT: u16 = BOLD | ITALIC | UNDERLINE | DOUBLE_WIDTH | REDUCED;
 
 /// A letter of the page: its place in dots, its width in units.
 #[derive(Clone, Copy)]
@@ -60,7 +65,7 @@ impl Letter {
             row,
             advance,
             sign: if is_blank(sign) { ' ' } else { sign },
-            style: style & SHOWN,
+            style: style & KEPT,
             column_width: if style & PROPORTIONAL != 0 {
                 PROPORTIONAL_COLUMN
             } else {
@@ -71,6 +76,23 @@ impl Letter {
             blank: 0,
             order,
         })
+    }
+
+    /// Its width without the space that ESC SP adds, as far as its record tells: the
+    /// widest that there is.
+    pub fn own_width(&self) -> u16 {
+        let widths = match self.style & REDUCED {
+            0 => WIDTHS,
+            _ => REDUCED_WIDTHS,
+        };
+        let times = match self.style & DOUBLE_WIDTH {
+            0 => 1,
+            _ => 2,
+        };
+        let mut widths = widths.iter().map(|width| width * times);
+        widths
+            .find(|&width| width <= self.advance)
+            .unwrap_or(self.advance)
     }
 
     pub fn is_blank(&self) -> bool {

@@ -10,8 +10,10 @@ mod input;
 mod layout;
 mod letters;
 mod line;
+mod listing;
 mod options;
 mod page;
+mod passed;
 mod progress;
 mod reader;
 mod slots;
@@ -21,8 +23,10 @@ mod text;
 
 use ierbulosc::State;
 use input::Input;
-use options::{choice, Choice, Options, HELP};
+use listing::Form;
+use options::{choice, Choice, Options, Slots, HELP};
 use page::Page;
+use passed::Passed;
 use progress::Progress;
 use reader::{Care, Reader};
 use std::fmt::Display;
@@ -39,6 +43,8 @@ pub enum Failure {
     Pipe,
     /// Reading or writing failed.
     Of(String),
+    /// Something was passed over, as was told.
+    Passed,
 }
 
 pub type Outcome<T> = Result<T, Failure>;
@@ -69,6 +75,7 @@ fn main() -> ExitCode {
     };
     match done {
         Ok(()) | Err(Failure::Pipe) => ExitCode::SUCCESS,
+        Err(Failure::Passed) => ExitCode::FAILURE,
         Err(Failure::Of(problem)) => {
             complain(&problem);
             ExitCode::FAILURE
@@ -93,7 +100,10 @@ fn look(options: &Options) -> Look {
     let plain = std::env::var_os("NO_COLOR").is_some_and(|word| !word.is_empty());
     Look {
         cpi: options.cpi,
-        styled: !plain && terminal::is_able(&io::stdout()),
+        styled: options
+            .color
+            .unwrap_or_else(|| !plain && terminal::is_able(&io::stdout())),
+        columns: terminal::size().map(|(_, columns)| columns),
     }
 }
 
@@ -106,10 +116,14 @@ struct Shown {
     text: String,
     progress: Progress,
     pages: u64,
+    /// The name of the capture, where there are several.
+    name: Option<String>,
     /// Whether a word of the text is not at its place.
     crowded: bool,
     /// Whether the slots named are not the card's.
     out_of_step: bool,
+    /// Whether something was passed over.
+    passed: bool,
 }
 
 impl Shown {
@@ -121,23 +135,62 @@ impl Shown {
             text: String::new(),
             progress: Progress::new(total),
             pages: 0,
+            name: None,
             crowded: false,
             out_of_step: false,
+            passed: false,
         }
+    }
+
+    /// Begins a capture, under its name where there are several.
+    fn begin(&mut self, name: Option<String>) {
+        let silent = self.options.svg.is_some() || self.options.listing == Some(Form::Json);
+        if let Some(name) = name.as_ref().filter(|_| !silent) {
+            self.text += &format!("==== {} ====\n", input::shown(name));
+        }
+        self.name = name;
     }
 
     /// Shows a page, as a picture or as text, or only counts it.
     fn page(&mut self, page: &Page, state: &State) -> Outcome<()> {
         self.pages += 1;
         if let Some(prefix) = &self.options.svg {
-            return svg::write(prefix, self.pages, page, state);
+            return svg::write(prefix, page.number, page, state);
         }
         if self.options.slots.is_none() {
-            if self.pages > 1 {
-                self.text += &format!("---- page {} ----\n", self.pages);
+            if page.number > 1 {
+                self.text += &format!("---- page {} ----\n", page.number);
             }
             self.crowded |= !text::draw(page, state, self.look, &mut self.text);
         }
+        self.write_much()
+    }
+
+    /// Tells what stands in the slots.
+    fn slots(&mut self, slots: &Slots, reader: &mut Reader) {
+        reader.settle();
+        let answers = slots::answers(reader.page(), reader.state(), slots);
+        self.out_of_step |= !answers.in_step;
+        match self.options.listing {
+            Some(_) => listing::slots(&answers, self.name.as_deref(), &mut self.text),
+            None => slots::draw(&answers, &mut self.text),
+        }
+    }
+
+    /// Ends a capture: what was passed over is told.
+    fn end(&mut self, passed: &Passed) {
+        if let Some(words) = passed.words() {
+            self.passed = true;
+            self.progress.hide();
+            match &self.name {
+                Some(name) => complain(&format!("{}: {words}", input::shown(name))),
+                None => complain(&words),
+            }
+        }
+    }
+
+    /// Writes what is not yet written, if it is much.
+    fn write_much(&mut self) -> Outcome<()> {
         if self.text.len() > PIECE {
             return self.write();
         }
@@ -157,6 +210,21 @@ impl Shown {
         self.text.clear();
         Ok(())
     }
+
+    /// What is to be said at the end of all.
+    fn close(&mut self) -> Outcome<()> {
+        self.progress.hide();
+        if self.crowded {
+            complain(text::CROWDED);
+        }
+        if self.out_of_step {
+            complain(slots::OUT_OF_STEP);
+        }
+        if self.passed && self.options.strict {
+            return Err(Failure::Passed);
+        }
+        Ok(())
+    }
 }
 
 /// What the reader must know of a page.
@@ -170,47 +238,67 @@ fn care(options: &Options) -> Care {
     }
 }
 
+/// The captures that are asked for, each of which must be there.
+fn inputs(options: &Options) -> Outcome<Vec<Input>> {
+    options.captures().into_iter().map(Input::new).collect()
+}
+
 /// Reads all, and shows what is asked for.
 fn run(options: Options) -> Outcome<()> {
-    let mut input = Input::new(options.files.clone())?;
-    let mut reader = Reader::new(&options.settings, care(&options));
-    let mut shown = Shown::new(options, input.total);
-    let done = read(&mut input, &mut reader, &mut shown);
-    // Pages that were read before a failure are shown all the same.
-    let written = shown.write();
-    shown.progress.hide();
-    done.and(written)?;
-    if shown.crowded {
-        complain(text::CROWDED);
+    let inputs = inputs(&options)?;
+    let several = inputs.len() > 1;
+    let totals = inputs.iter().map(|input| input.total);
+    let mut shown = Shown::new(options, totals.sum());
+    for mut input in inputs {
+        shown.begin(several.then(|| input.name.clone()));
+        let done = read(&mut input, &mut shown);
+        // Pages that were read before a failure are shown all the same.
+        let written = shown.write();
+        shown.progress.hide();
+        done.and(written)?;
     }
-    if shown.out_of_step {
-        complain(slots::OUT_OF_STEP);
+    shown.close()
+}
+
+/// Reads all of a capture, or as much as can be read, and shows it.
+fn read(input: &mut Input, shown: &mut Shown) -> Outcome<()> {
+    let mut reader = Reader::new(&shown.options.settings, care(&shown.options));
+    let listed = shown
+        .options
+        .listing
+        .filter(|_| shown.options.slots.is_none());
+    let mut room = vec![0; PIECE];
+    loop {
+        let count = match input.read(&mut room) {
+            Ok(0) => return end(&mut reader, shown),
+            Ok(count) => count,
+            Err(failure) => return end(&mut reader, shown).and(Err(failure)),
+        };
+        match listed {
+            Some(form) => list(&mut reader, &room[..count], form, shown)?,
+            None => reader.read(&room[..count], &mut |page, state| shown.page(page, state))?,
+        }
+        shown.write()?;
+        shown.progress.read(count, shown.pages);
     }
-    Ok(())
+}
+
+/// Reads these bytes, and lists their records.
+fn list(reader: &mut Reader, bytes: &[u8], form: Form, shown: &mut Shown) -> Outcome<()> {
+    let dots = reader.state().dots_across;
+    reader.list(bytes, &mut |records| {
+        listing::list(records, form, shown.name.as_deref(), dots, &mut shown.text);
+        shown.write_much()
+    })
 }
 
 /// Shows the present page and the slots.
 fn end(reader: &mut Reader, shown: &mut Shown) -> Outcome<()> {
     reader.end(&mut |page, state| shown.page(page, state))?;
-    if let Some(slots) = &shown.options.slots {
-        reader.settle();
-        let in_step = slots::draw(reader.page(), reader.state(), slots, &mut shown.text);
-        shown.out_of_step = !in_step;
+    if let Some(slots) = shown.options.slots.clone() {
+        shown.slots(&slots, reader);
     }
+    shown.write()?;
+    shown.end(reader.passed());
     Ok(())
-}
-
-/// Reads all of the input, or as much as can be read, and shows it.
-fn read(input: &mut Input, reader: &mut Reader, shown: &mut Shown) -> Outcome<()> {
-    let mut room = vec![0; PIECE];
-    loop {
-        let count = match input.read(&mut room) {
-            Ok(0) => return end(reader, shown),
-            Ok(count) => count,
-            Err(failure) => return end(reader, shown).and(Err(failure)),
-        };
-        reader.read(&room[..count], &mut |page, state| shown.page(page, state))?;
-        shown.write()?;
-        shown.progress.read(count, shown.pages);
-    }
 }

@@ -1,5 +1,6 @@
 //! The words of the command line.
 
+use crate::listing::Form;
 use ierbulosc::{Answer, Settings, State};
 use std::ffi::{OsStr, OsString};
 use std::os::unix::ffi::OsStrExt;
@@ -7,30 +8,38 @@ use std::os::unix::ffi::OsStrExt;
 /// What `--help` prints.
 pub const HELP: &str = "\
 card [OPTION..] [FILE..]
-Reads ESC/P from the files, one after the other, or from standard input, and
-shows each page: letters at their places, images as dots.
+Reads ESC/P from files, each a capture of its own, or from standard input, and shows
+each page: letters at their places, images as dots.
   --dots N        dots to the inch: 203 or 300 (300 if not given)
   --width N       width of the paper in 1/3600 inch: 7200 to 28800 (28800 if not given)
   --auto-feed     a line feed after each carriage return
-  --cpi N         cells of the text to the inch: 1 to 100 (10 if not given); letters
-                  that stand closer want more: 12, 15, 17 or 20
+  --cpi N         cells of the text to the inch: 1 to 100 (if not given, 10, 12, 15, 17
+                  or 20, as the letters of a page need)
   --svg PREFIX    in place of text, a picture of each page: PREFIX-1.svg and so on
   --slots LIST    in place of text, at the end, what stands in each slot now; LIST is
                   where slots begin, from the left of the paper: columns, 10 to the
                   inch, 10,20,30, or of another pitch, 10,20,30@12 (10, 12, 15, 17
                   or 20); or places in inches, 0.833in,1.5in, or 1/3600 inch, 3000u
   --slot-stops    the same, where slots begin at the tab stops in force
-  --follow        redraws the present page, and the slots, as bytes come
-  --help          this text
-  --version       the version
+  --records       in place of text, the records in words, a line each
+  --json          records, or with --slots or --slot-stops the slots, as JSON, an object
+                  a line
+  --follow        redraws the present page, and the slots, as bytes come; of a file that
+                  grows, until Ctrl-C
+  --join          reads all files as one stream
+  --strict        status 1 if anything was passed over
+  --color WHEN    styles: always, auto (on a terminal, unless NO_COLOR is set) or never
+  -h, --help      this text
+  -V, --version   the version
 A slot goes up to the next one, the last to the edge of the paper. What stands there
 is what the newest line there has; a page that was turned is gone. Text that begins
 before the slot or runs past it is whole, and marked; so is all that may be another
 slot's, such as text that does not begin at the slot's first column.
 A serial line is set raw before it is read: stty -F DEVICE 9600 raw -echo
 A FILE of - is standard input; after -- every word is a FILE.
-Styles are shown on a terminal, unless NO_COLOR is set.
-Exit status: 0; 1 where reading or writing failed; 2 for bad usage.
+What was passed over is told in a line on standard error, with the place of the first
+byte, counted from 0.
+Exit status: 0; 1 where reading or writing failed, or by --strict; 2 for bad usage.
 ";
 
 /// The most cells of the text to an inch.
@@ -48,10 +57,14 @@ const PITCHES: [(&str, u32); 5] = [
 ];
 
 /// The options without a value.
-const FLAGS: [&str; 5] = [
+const FLAGS: [&str; 9] = [
     "--auto-feed",
     "--slot-stops",
+    "--records",
+    "--json",
     "--follow",
+    "--join",
+    "--strict",
     "--help",
     "--version",
 ];
@@ -60,6 +73,7 @@ const FLAGS: [&str; 5] = [
 const DOTS: &str = "--dots takes 203 or 300";
 const WIDTH: &str = "--width takes 7200 to 28800";
 const CPI: &str = "--cpi takes 1 to 100";
+const COLOR: &str = "--color takes always, auto or never";
 const SVG: &str = "--svg takes the beginning of the pictures' names";
 const SLOTS: &str = "--slots takes places on 8 inches of paper, ascending: columns as 10,20,30 \
                      or, of another pitch, 10,20,30@12 (10, 12, 15, 17, 20); 1in,2.5in; 3600u";
@@ -84,15 +98,22 @@ pub enum Named {
 }
 
 /// What is asked for.
-#[derive(Clone, PartialEq, Eq, Debug)]
+#[derive(Clone, PartialEq, Eq, Default, Debug)]
 pub struct Options {
     pub settings: Settings,
-    /// Cells of the text to an inch.
-    pub cpi: u32,
+    /// Cells of the text to an inch; none: as the page needs.
+    pub cpi: Option<u32>,
     /// The beginning of the names of pictures, if such are to be written.
     pub svg: Option<OsString>,
     pub slots: Option<Slots>,
+    /// Whether records are listed, or slots told, and how.
+    pub listing: Option<Form>,
     pub follow: bool,
+    /// Whether the files are one stream.
+    pub join: bool,
+    pub strict: bool,
+    /// Whether styles are shown, if it does not go by the terminal.
+    pub color: Option<bool>,
     /// The files to read; none: standard input.
     pub files: Vec<OsString>,
 }
@@ -105,16 +126,13 @@ pub enum Choice {
     Version,
 }
 
-impl Default for Options {
-    fn default() -> Options {
-        Options {
-            settings: Settings::default(),
-            cpi: 10,
-            svg: None,
-            slots: None,
-            follow: false,
-            files: Vec::new(),
+impl Options {
+    /// The captures: the files of each.
+    pub fn captures(&self) -> Vec<Vec<OsString>> {
+        if self.join || self.files.len() < 2 {
+            return vec![self.files.clone()];
         }
+        self.files.iter().map(|file| vec![file.clone()]).collect()
     }
 }
 
@@ -133,8 +151,8 @@ pub fn choice(words: impl IntoIterator<Item = OsString>) -> Result<Choice, Strin
                 options.files.extend(words);
                 break;
             }
-            "--help" => return Ok(Choice::Help),
-            "--version" => return Ok(Choice::Version),
+            "-h" | "--help" => return Ok(Choice::Help),
+            "-V" | "--version" => return Ok(Choice::Version),
             _ if name.len() > 1 && name.starts_with('-') => {
                 let value = || value.or_else(|| words.next());
                 set(&mut options, &name, value)?;
@@ -171,7 +189,7 @@ fn set(
     match name {
         "--dots" => options.settings.resolution = number(value()).ok_or(DOTS)?,
         "--width" => options.settings.width = number(value()).ok_or(WIDTH)?,
-        "--cpi" => options.cpi = number(value()).ok_or(CPI)?,
+        "--cpi" => options.cpi = Some(number(value()).ok_or(CPI)?),
         "--svg" => options.svg = Some(value().filter(|prefix| !prefix.is_empty()).ok_or(SVG)?),
         "--slots" => {
             let list = value().and_then(|list| places(list.to_str()?));
@@ -180,6 +198,18 @@ fn set(
         "--auto-feed" => options.settings.auto_feed = 1,
         "--slot-stops" => options.slots = Some(Slots::Stops),
         "--follow" => options.follow = true,
+        "--join" => options.join = true,
+        "--strict" => options.strict = true,
+        "--records" => options.listing = options.listing.or(Some(Form::Words)),
+        "--json" => options.listing = Some(Form::Json),
+        "--color" => {
+            options.color = match value().as_deref().and_then(OsStr::to_str) {
+                Some("always") => Some(true),
+                Some("never") => Some(false),
+                Some("auto") => None,
+                _ => return Err(COLOR.into()),
+            }
+        }
         _ => {
             let name = name.escape_debug();
             return Err(format!("{name} is no option; see card --help"));
@@ -237,11 +267,18 @@ fn length(word: &str) -> Option<u32> {
 /// Whether the options hold together.
 fn whole(options: &Options) -> Result<(), String> {
     let Options { settings, .. } = options;
-    if !(1..=MOST_CPI).contains(&options.cpi) {
+    if !options.cpi.is_none_or(|cpi| (1..=MOST_CPI).contains(&cpi)) {
         return Err(CPI.into());
     }
-    if options.follow && options.svg.is_some() {
-        return Err("--follow draws on the screen, and takes no --svg".into());
+    let listed = options.listing.is_some();
+    if options.follow && (listed || options.svg.is_some()) {
+        return Err("--follow draws on the screen, and takes no --svg, --records or --json".into());
+    }
+    if options.svg.is_some() && (listed || options.slots.is_some()) {
+        return Err("--svg writes pictures, and takes no --slots, --records or --json".into());
+    }
+    if options.listing == Some(Form::Words) && options.slots.is_some() {
+        return Err("--records takes no slots; --json does".into());
     }
     let start = |settings: &Settings| State::start(settings).0 == Answer::Done;
     let plain = Settings::default();

@@ -1,7 +1,7 @@
 //! What stands on a page.
 
 use crate::layout::{Layout, Layouts};
-use ierbulosc::{records, Records, RECORD_SIZE};
+use ierbulosc::{records, Records, NEW_TOP, RECORD_SIZE};
 use std::collections::HashMap;
 
 /// The bytes of a row's records up to which nothing is looked for that could be
@@ -110,17 +110,20 @@ pub struct Page {
     pub images: List,
     /// The margins and stops that the letters were printed in, if asked for.
     pub layouts: Layouts,
+    /// Its number, counted from 1; empty sheets count too.
+    pub number: u64,
     /// The present row.
     row: [u8; 2],
 }
 
 impl Page {
-    /// An empty page, with these margins and stops in force.
-    pub fn new(layout: Layout) -> Page {
+    /// An empty page of this number, with these margins and stops in force.
+    pub fn new(number: u64, layout: Layout) -> Page {
         Page {
             letters: List::new(MANY_LETTERS),
             images: List::new(MANY_IMAGES),
             layouts: Layouts::new(layout),
+            number,
             row: [0; 2],
         }
     }
@@ -129,9 +132,10 @@ impl Page {
         self.letters.bytes.is_empty() && self.images.bytes.is_empty()
     }
 
-    /// Takes a record's bytes, with its place if that is asked for; whether the
-    /// page ends with it.
-    pub fn take(&mut self, record: &[u8], place: Option<Place>) -> bool {
+    /// Takes a record's bytes, with its place if that is asked for; if the page ends
+    /// with it, how many pages are turned. A new top is another page, unless
+    /// nothing stands on this one.
+    pub fn take(&mut self, record: &[u8], place: Option<Place>) -> Option<u64> {
         match *record {
             [b'T', b'X', ..] => self.add(record, place),
             [b'I', b'M', ..] => {
@@ -141,7 +145,11 @@ impl Page {
                 let other = self.row != [low, high];
                 self.row = [low, high];
                 self.lists(|list| list.feed(other));
-                return pages > 0;
+                return match pages {
+                    0 => None,
+                    NEW_TOP => Some(u64::from(!self.is_empty())),
+                    _ => Some(pages.into()),
+                };
             }
             [b'C', b'L', ..] => {
                 self.lists(List::void);
@@ -149,7 +157,7 @@ impl Page {
             }
             _ => {}
         }
-        false
+        None
     }
 
     /// Adds a letter.
@@ -160,8 +168,9 @@ impl Page {
         }
     }
 
-    /// Another sheet.
-    pub fn clear(&mut self) {
+    /// Another sheet, so many further on.
+    pub fn turn(&mut self, pages: u64) {
+        self.number += pages;
         self.lists(List::clear);
         self.layouts.cut(0);
     }

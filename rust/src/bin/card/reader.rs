@@ -2,6 +2,7 @@
 
 use crate::layout::Layout;
 use crate::page::{Page, Place};
+use crate::passed::Passed;
 use crate::Outcome;
 use ierbulosc::{Settings, State, IMAGE_DATA, RECORD_SIZE, ROOM};
 
@@ -32,7 +33,10 @@ pub struct Reader {
     state: State,
     page: Page,
     /// The pages that have ended.
-    pages: u64,
+    ended: u64,
+    /// The bytes that were read, and what was passed over of them.
+    bytes: u64,
+    passed: Passed,
     out: Vec<u8>,
     care: Care,
     /// With [`Care::Layout`]: input that was read without care.
@@ -44,6 +48,8 @@ pub struct Reader {
 /// anew, with care, when these are asked for.
 struct Recent {
     state: State,
+    /// The number of its first page.
+    number: u64,
     input: Vec<u8>,
 }
 
@@ -56,12 +62,15 @@ impl Reader {
         let state = State::start(settings).1;
         Reader {
             state,
-            page: Page::new(Layout::of(&state)),
-            pages: 0,
+            page: Page::new(1, Layout::of(&state)),
+            ended: 0,
+            bytes: 0,
+            passed: Passed::default(),
             out: vec![0; OUTPUT],
             care,
             recent: (care == Care::Layout).then(|| Recent {
                 state,
+                number: 1,
                 input: Vec::new(),
             }),
         }
@@ -72,6 +81,11 @@ impl Reader {
         &self.state
     }
 
+    /// What was passed over so far.
+    pub fn passed(&self) -> &Passed {
+        &self.passed
+    }
+
     /// The present page.
     pub fn page(&self) -> &Page {
         &self.page
@@ -79,12 +93,16 @@ impl Reader {
 
     /// Reads these bytes. Each page that ends and has something on it is shown.
     pub fn read(&mut self, input: &[u8], show: Show) -> Outcome<()> {
-        let (state, pages) = (self.state, self.pages);
+        let (state, ended, number) = (self.state, self.ended, self.page.number);
         self.read_through(input, show)?;
-        if self.care == Care::Layout && self.pages > pages {
+        if self.care == Care::Layout && self.ended > ended {
             let mut kept = self.recent.take().map_or(Vec::new(), |recent| recent.input);
             kept.clear();
-            self.recent = Some(Recent { state, input: kept });
+            self.recent = Some(Recent {
+                state,
+                number,
+                input: kept,
+            });
         }
         if let Some(recent) = &mut self.recent {
             recent.input.extend_from_slice(input);
@@ -95,13 +113,34 @@ impl Reader {
         Ok(())
     }
 
+    /// Reads these bytes, and takes their records to no page: they are given on.
+    pub fn list(
+        &mut self,
+        mut input: &[u8],
+        give: &mut dyn FnMut(&[u8]) -> Outcome<()>,
+    ) -> Outcome<()> {
+        while !input.is_empty() {
+            let before = self.state;
+            let report = self.state.read(input, usize::MAX, &mut self.out);
+            let (piece, rest) = input.split_at(report.read);
+            let records = &self.out[..report.written];
+            self.passed.take(records, &before, piece, self.bytes);
+            self.bytes += piece.len() as u64;
+            give(records)?;
+            input = rest;
+        }
+        Ok(())
+    }
+
     /// Makes what is asked for known of the present page.
     pub fn settle(&mut self) {
         if let Some(recent) = self.recent.take() {
             self.state = recent.state;
-            self.page = Page::new(Layout::of(&self.state));
-            // Pages that ended have been shown.
+            self.page = Page::new(recent.number, Layout::of(&self.state));
+            // Pages that ended have been shown, and what was passed over is told.
+            let (bytes, passed) = (self.bytes, self.passed);
             let _ = self.read_through(&recent.input, &mut |_, _| Ok(()));
+            (self.bytes, self.passed) = (bytes, passed);
         }
     }
 
@@ -113,7 +152,7 @@ impl Reader {
             let report = self.state.read(input, allowance, &mut self.out);
             let mut done = report.read;
             if self.is_clear(done, report.written) {
-                self.take(report.written, &before, show)?;
+                self.take(&input[..done], report.written, &before, show)?;
             } else {
                 self.state = before;
                 done = done.min(first_escape(input));
@@ -129,7 +168,7 @@ impl Reader {
         for byte in input.chunks(1) {
             let before = self.state;
             let report = self.state.read(byte, 1, &mut self.out);
-            self.take(report.written, &before, show)?;
+            self.take(byte, report.written, &before, show)?;
         }
         Ok(())
     }
@@ -174,25 +213,32 @@ impl Reader {
             }
     }
 
-    /// Takes the records of the output's first bytes.
-    fn take(&mut self, written: usize, before: &State, show: Show) -> Outcome<()> {
+    /// Takes the records of the output's first bytes, which came of this input.
+    fn take(&mut self, input: &[u8], written: usize, before: &State, show: Show) -> Outcome<()> {
+        let mut passed = false;
         let records = self.out[..written].chunks_exact(RECORD_SIZE);
         let mut place = (self.care == Care::Places).then(|| Place {
             across: self.state.across - records.clone().filter_map(step).sum::<u32>(),
             down: self.state.down,
         });
         for record in records {
-            if self.page.take(record, place) {
+            passed |= record[0] == b'N';
+            if let Some(pages) = self.page.take(record, place) {
                 if !self.page.is_empty() {
                     show(&self.page, before)?;
                 }
-                self.page.clear();
-                self.pages += 1;
+                self.page.turn(pages);
+                self.ended += 1;
             }
             if let Some(place) = &mut place {
                 place.across += step(record).unwrap_or(0);
             }
         }
+        if passed {
+            let records = &self.out[..written];
+            self.passed.take(records, before, input, self.bytes);
+        }
+        self.bytes += input.len() as u64;
         if self.due() == Care::Layout && !self.page.layouts.now().is_of(&self.state) {
             self.page.change_layout(Layout::of(&self.state));
         }

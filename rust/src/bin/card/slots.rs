@@ -27,10 +27,9 @@ pub struct Answers {
     pub in_step: bool,
 }
 
-/// Appends a line for each slot; whether the slots are in step with the card. The
-/// driver counts slots from 1, the electricians from 0.
-pub fn draw(page: &Page, state: &State, slots: &Slots, text: &mut String) -> bool {
-    let answers = answers(page, state, slots);
+/// Appends a line for each slot. The driver counts slots from 1, the electricians
+/// from 0.
+pub fn draw(answers: &Answers, text: &mut String) {
     if answers.slots.is_empty() {
         text.push_str("no tab stop is in force, so there are no slots\n");
     }
@@ -44,7 +43,6 @@ pub fn draw(page: &Page, state: &State, slots: &Slots, text: &mut String) -> boo
         }
         text.push('\n');
     }
-    answers.in_step
 }
 
 /// What stands in each slot.
@@ -379,12 +377,15 @@ fn is_one(text: &[Letter]) -> bool {
 }
 
 /// Whether the letters of a word are evenly apart, but for dots that rounding may
-/// give.
+/// give; two letters must touch.
 fn is_even(word: &[Letter], across: u32) -> bool {
     let gaps = word.windows(2).map(|pair| pair[1].gap(&pair[0], across));
-    let (least, most) = gaps.fold((i64::MAX, i64::MIN), |(least, most), gap| {
-        (least.min(gap), most.max(gap))
-    });
+    let none = (word.len() == 2).then_some(0);
+    let (least, most) = gaps
+        .chain(none)
+        .fold((i64::MAX, i64::MIN), |(least, most), gap| {
+            (least.min(gap), most.max(gap))
+        });
     most.saturating_sub(least) < 3 * 3_600
 }
 

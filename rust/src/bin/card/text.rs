@@ -17,10 +17,39 @@ pub const CROWDED: &str =
 /// How a page is drawn.
 #[derive(Clone, Copy)]
 pub struct Look {
-    /// Cells to an inch.
-    pub cpi: u32,
+    /// Cells to an inch, if they do not follow the page.
+    pub cpi: Option<u32>,
     /// Whether styles are shown.
     pub styled: bool,
+    /// The cells of the screen across, if they are known.
+    pub columns: Option<usize>,
+}
+
+/// The cells to an inch that a page may have of itself.
+const GRIDS: [u32; 5] = [10, 12, 15, 17, 20];
+
+/// The cells to an inch in which letters have room: the fewest that the narrowest
+/// of them needs, or, where the screen has not as many, those that it has, if
+/// there are such.
+fn cells_to_inch(letters: &[Letter], look: Look, across: u32) -> u32 {
+    let width = |letter: &Letter| {
+        let halves = if letter.style & DOUBLE_WIDTH != 0 {
+            2
+        } else {
+            1
+        };
+        u32::from(letter.advance) / halves
+    };
+    let inked = || letters.iter().filter(|letter| !letter.is_blank());
+    let narrowest = inked().map(width).min().unwrap_or(360);
+    let right = inked().map(|letter| u32::from(letter.column)).max();
+    let on_screen = |cpi: &&u32| {
+        let last = (right.unwrap_or(0) * *cpi / across) as usize;
+        look.columns.is_none_or(|columns| last < columns)
+    };
+    let needed = GRIDS.iter().position(|cpi| narrowest * cpi >= 3_600);
+    let up_to = &GRIDS[..needed.map_or(GRIDS.len(), |place| place + 1)];
+    *up_to.iter().rev().find(on_screen).unwrap_or(&GRIDS[0])
 }
 
 /// Appends the page's lines; whether each word is whole and begins at its place.
@@ -30,10 +59,12 @@ pub fn draw(page: &Page, state: &State, look: Look, text: &mut String) -> bool {
     letters.sort_by_key(|letter| (letter.row, letter.column));
     let lines: Vec<&[Letter]> = letters.chunk_by(|one, next| one.row == next.row).collect();
     let rows = rows(&lines, state.dots_down);
-    let dots = Dots::of(page, state, look.cpi, &anchors(&lines, &rows));
+    let cpi = look.cpi;
+    let cpi = cpi.unwrap_or_else(|| cells_to_inch(&letters, look, state.dots_across));
+    let dots = Dots::of(page, state, cpi, &anchors(&lines, &rows));
     let count = rows.last().map_or(0, |last| last + 1).max(dots.rows());
     let grid = Grid {
-        cpi: look.cpi,
+        cpi,
         across: state.dots_across,
     };
     let mut lines = rows.iter().zip(&lines).peekable();
