@@ -1034,13 +1034,276 @@ fn exact_places_in_pictures() {
         let picture = fs::read_to_string(folder.0.join(format!("{dots}-1.svg"))).unwrap();
         for place in [
             "x=\"0\" y=\"400\"",
-            "x=\"380\" y=\"400\"",
-            "x=\"740\" y=\"420\"",
+            // 300 of 360 units: the whole is stretched.
+            "scale(1.2 1)\" x=\"316.667\" y=\"400\"",
+            "x=\"616.667\" y=\"420\"",
             "M1100 20h20v20h-20zM1120 20h20v20h-20z",
-            "x=\"1140\" y=\"420\"",
+            "x=\"950\" y=\"420\"",
         ] {
             assert!(picture.contains(place), "{place}: {picture}");
         }
+    }
+}
+
+/// A word is one text with its letters' places, so that it can be found; letters
+/// keep their shape under ESC SP; the paper has a border, and is one sheet.
+#[test]
+fn words_in_pictures() {
+    let input =
+        b"STATE\x1B$\xF0\x00RELEASED NOW   OFF\r\n\x1BM\x1B \x05AB\x1BW\x01C\x1BW\x00\x1B-\x01 D ";
+    let picture = prints(&["--svg", "-"], input);
+    for part in [
+        "<title>standard input, page 1</title>",
+        "width=\"8.2in\" height=\"11.2in\" viewBox=\"-360 -360 29520 40320\"",
+        "@page{size:8.2in 11.2in;margin:0}",
+        "<rect width=\"28800\" height=\"39600\" fill=\"white\" stroke=",
+        "x=\"0 300 600 900 1200\" y=\"400\">STATE</text>",
+        "x=\"12000 12300 12600 12900 13200 13500 13800 14100 14400 14700 15000 15300\" \
+         y=\"400\">RELEASED NOW</text>",
+        ">OFF</text>",
+        // 300 wide, and 100 between; twice as wide, and 200.
+        "<text x=\"0 400\" y=\"1000\" letter-spacing=\"100\">AB</text>",
+        "<text transform=\"scale(2 1)\" x=\"400\" y=\"1000\" letter-spacing=\"100\">C</text>",
+        "text-decoration=\"underline\">\u{a0}D\u{a0}</text>",
+    ] {
+        assert!(picture.contains(part), "{part}: {picture}");
+    }
+}
+
+/// A name, a folder, standard output; pages of an earlier run do not stay, and other
+/// files do.
+#[test]
+fn names_of_pictures() {
+    let folder = Folder::new("card-names");
+    let path = |name: &str| folder.0.join(name).to_str().unwrap().to_string();
+    let three = b"A\x0CB\x0C\x0CC";
+    for (kind, end) in [("--svg", ".svg"), ("--png", ".png")] {
+        let names = |list: &[&str]| -> Vec<String> {
+            list.iter().map(|name| format!("{name}{end}")).collect()
+        };
+        fs::write(path(&format!("x-7{end}")), b"not ours").unwrap();
+        prints(&[kind, &path("x")], three);
+        assert_eq!(folder.names(), names(&["x-1", "x-2", "x-4", "x-7"]));
+        prints(&[kind, &path("x")], b"A");
+        assert_eq!(folder.names(), names(&["x-1", "x-7"]));
+        fs::remove_file(path(&format!("x-7{end}"))).unwrap();
+        prints(&[kind, &path(&format!("x{end}"))], three);
+        let mut plain = names(&["x-2", "x-4", "x"]);
+        plain.sort();
+        assert_eq!(folder.names(), plain);
+        prints(&[kind, &path(&format!("x{end}"))], b"A");
+        assert_eq!(folder.names(), names(&["x"]));
+        fs::remove_file(path(&format!("x{end}"))).unwrap();
+        prints(&[kind, &path("")], b"A\x0CB");
+        assert_eq!(folder.names(), names(&["page-1", "page-2"]));
+        fs::remove_file(path(&format!("page-1{end}"))).unwrap();
+        fs::remove_file(path(&format!("page-2{end}"))).unwrap();
+        assert!(!run(&[kind, "-"], b"A").stdout.is_empty());
+    }
+    // Several captures.
+    fs::write(path("one"), b"A").unwrap();
+    prints(&["--svg", &path("y"), &path("one"), "-"], b"A\x0CB");
+    let names = ["one", "y-1-1.svg", "y-2-1.svg", "y-2-2.svg"];
+    assert_eq!(folder.names(), names);
+}
+
+/// A picture appears whole or not at all.
+#[test]
+fn pictures_that_fail() {
+    let folder = Folder::new("card-whole");
+    let name = folder.0.join("page.svg");
+    fs::create_dir(&name).unwrap();
+    for kind in ["--svg", "--pdf"] {
+        let words = [kind, name.to_str().unwrap()];
+        failed(run(&words, b"A"), name.to_str().unwrap());
+        assert_eq!(folder.names(), ["page.svg"], "{kind}");
+    }
+    // Input that cannot be read leaves the PDF as it was.
+    let name = folder.0.join("old.pdf");
+    fs::write(&name, b"old").unwrap();
+    let words = [
+        "--join",
+        "--pdf",
+        name.to_str().unwrap(),
+        "-",
+        folder.0.to_str().unwrap(),
+    ];
+    failed(run(&words, b"A"), folder.0.to_str().unwrap());
+    assert_eq!(fs::read(&name).unwrap(), b"old");
+    assert_eq!(folder.names(), ["old.pdf", "page.svg"]);
+}
+
+/// All pages in one PDF: its table of objects, the pages' sizes, words at their
+/// exact places and widths, dots as masks.
+#[test]
+fn all_pages_in_a_pdf() {
+    let input =
+        b"\x1BC\x00\x02STATE\x1B$\xF0\x00RELEASED (A\\B)\x0C\x1BM\x1B \x05AB\r\n\x1BP\x1B \x00\
+                  \x1B*\x27\x02\x00\x80\x00\x01\x40\x00\x02\x1BK\x01\x00\xF0\x1BR\x02[\xB3";
+    let pdf = run(&["--pdf", "-"], input).stdout;
+    let text = String::from_utf8_lossy(&pdf).into_owned();
+    for part in [
+        "/Count 2>>",
+        "/MediaBox[0 0 576 144]",
+        "/F0 10 Tf 120 Tz 0 Tc 1 0 0 1 288 136 Tm (RELEASED \\(A\\\\B\\)) Tj",
+        // 300 wide and 100 between.
+        "/F0 10 Tf 100 Tz 2 Tc 1 0 0 1 0 136 Tm (AB) Tj",
+        // Two columns of 20 units, 480 high, whose first and last dots are set.
+        "q 0.80 0 0 9.60 0 122.40 cm\nBI/W 2/H 24/IM true/BPC 1/D[1 0]/F/AHx\nID\n80\n40\n00\n",
+        "00\n00\n40\n80\n>\nEI Q",
+        "q 1.20 0 0 9.60 0.80 122.40 cm\nBI/W 1/H 8/",
+        "(\\304) Tj",
+        "/ActualText<FEFF2502>",
+    ] {
+        assert!(text.contains(part), "{part}: {text}");
+    }
+    let number = |at: usize| -> usize {
+        let digits: String = text[at..]
+            .chars()
+            .take_while(char::is_ascii_digit)
+            .collect();
+        digits.parse().unwrap()
+    };
+    // Bytes that are no text are replaced by three each, so the table is looked for
+    // in the bytes.
+    let find = |words: &str| {
+        let words = words.as_bytes();
+        pdf.windows(words.len())
+            .position(|part| part == words)
+            .unwrap()
+    };
+    let begin = number(text.rfind("startxref\n").unwrap() + 10);
+    assert_eq!(find("xref\n0 "), begin);
+    let table = String::from_utf8_lossy(&pdf[begin..]).into_owned();
+    let entries = table
+        .lines()
+        .skip(3)
+        .take_while(|line| line.ends_with(" n "));
+    let mut count = 0;
+    for (entry, object) in entries.zip(1..) {
+        let place: usize = entry[..10].parse().unwrap();
+        assert_eq!(entry.len(), 19);
+        assert!(pdf[place..].starts_with(format!("{object} 0 obj\n").as_bytes()));
+        count = object;
+    }
+    assert!(table.contains(&format!("/Size {}/", count + 1)));
+}
+
+/// Where poppler is there, it finds the words of a PDF at their places.
+#[test]
+fn a_pdf_as_others_read_it() {
+    let folder = Folder::new("card-pdf");
+    let name = folder.0.join("card.pdf");
+    let name = name.to_str().unwrap();
+    prints(
+        &["--pdf", name, docs().join("card.prn").to_str().unwrap()],
+        b"",
+    );
+    let read = |words: &[&str]| {
+        let output = Command::new("pdftotext")
+            .args(words)
+            .arg(name)
+            .arg("-")
+            .output();
+        output
+            .ok()
+            .map(|output| String::from_utf8(output.stdout).unwrap())
+    };
+    let (Some(text), Some(places)) = (read(&["-layout"]), read(&["-bbox"])) else {
+        eprintln!("pdftotext is not there: the PDF's words are not read by another program");
+        return;
+    };
+    let states: Vec<&str> = text.lines().nth(3).unwrap().split_whitespace().collect();
+    let locked = "LOCKED";
+    let released = "RELEASED";
+    assert_eq!(
+        states,
+        ["STATE", locked, locked, locked, released, locked, locked, locked]
+    );
+    let word = places
+        .lines()
+        .find(|line| line.contains(">RELEASED<"))
+        .unwrap();
+    assert!(word.contains("xMin=\"288.000000\""), "{word}");
+    assert!(word.contains("xMax=\"345.600000\""), "{word}");
+}
+
+/// The bytes of a stream of zlib with one block in fixed codes.
+fn inflated(stream: &[u8]) -> Vec<u8> {
+    let bits = stream[2..]
+        .iter()
+        .flat_map(|byte| (0..8).map(move |bit| byte >> bit & 1));
+    let mut bits = bits.map(usize::from);
+    let mut plain = |count: usize| {
+        (0..count)
+            .map(|bit| bits.next().unwrap() << bit)
+            .sum::<usize>()
+    };
+    assert_eq!(plain(3), 0b011);
+    let mut out: Vec<u8> = Vec::new();
+    loop {
+        let mut code = 0;
+        let mut length = 0;
+        let symbol = loop {
+            code = 2 * code + plain(1);
+            length += 1;
+            match (length, code) {
+                (7, 0..=0x17) => break 256 + code,
+                (8, 0x30..=0xBF) => break code - 0x30,
+                (8, 0xC0..=0xC7) => break 280 + code - 0xC0,
+                (9, 0x190..=0x1FF) => break 144 + code - 0x190,
+                _ => assert!(length < 9),
+            }
+        };
+        match symbol {
+            0..=255 => out.push(symbol as u8),
+            256 => return out,
+            _ => {
+                let count = match symbol - 257 {
+                    28 => 258,
+                    part @ 0..=7 => 3 + part,
+                    part => 3 + ((4 + part % 4) << (part / 4 - 1)) + plain(part / 4 - 1),
+                };
+                let part = (0..5).fold(0, |code, _| 2 * code + plain(1));
+                let distance = match part {
+                    0..=3 => 1 + part,
+                    _ => 1 + ((2 + part % 2) << (part / 2 - 1)) + plain(part / 2 - 1),
+                };
+                for _ in 0..count {
+                    out.push(out[out.len() - distance]);
+                }
+            }
+        }
+    }
+}
+
+/// A PNG has the printer's own dots: of images each, of letters a box.
+#[test]
+fn dots_in_a_png() {
+    let input = b"\x1BC\x00\x01\x1B*\x27\x02\x00\x80\x00\x01\x40\x00\x02\x1B$\x3C\x00A";
+    for (dots, width, height, size) in [("300", 600, 300, 2), ("203", 406, 200, 1)] {
+        let png = run(&["--png", "-", "--width=7200", "--dots", dots], input).stdout;
+        assert!(png.starts_with(b"\x89PNG\r\n\x1A\n\0\0\0\x0DIHDR"));
+        let number = |at: usize| u32::from_be_bytes(png[at..at + 4].try_into().unwrap()) as usize;
+        assert_eq!((number(16), number(20)), (width, height));
+        let data = png.windows(4).position(|part| part == b"IDAT").unwrap();
+        let rows = inflated(&png[data + 4..data + 4 + number(data - 4)]);
+        let stride = 1 + width.div_ceil(8);
+        assert_eq!(rows.len(), stride * height);
+        let black = |column: usize, row: usize| {
+            rows[row * stride + 1 + column / 8] & (0x80 >> (column % 8)) == 0
+        };
+        // Dots of 20 units: the first of the first column, the last but one of the
+        // second; between them none.
+        assert!(black(0, 0) && !black(size, 0) && !black(0, size));
+        let last = (22 * 20 * height + 1_800) / 3_600;
+        assert!(black(size, last) && !black(0, last), "{dots}");
+        // The box of the letter at an inch, 288 units wide and 350 high.
+        let inch = width / 2;
+        let left = inch + (36 * inch + 1_800) / 3_600;
+        let (top, base) = (50 * height / 3_600, (400 * height + 1_800) / 3_600);
+        assert!((top..=top + 1).any(|row| black(left + 5, row)), "{dots}");
+        assert!(black(left, base - 3) && black(left + 5, base) && !black(left + 5, base - 3));
     }
 }
 
@@ -1054,6 +1317,8 @@ fn help_and_version() {
         "--auto-feed",
         "--cpi",
         "--svg",
+        "--png",
+        "--pdf",
         "--slots",
         "--slot-stops",
         "--records",
@@ -1099,7 +1364,9 @@ fn refused(words: &[&str], problem: &str) {
 
 #[test]
 fn bad_values() {
-    let bad: [(&str, &str, &[&str]); 6] = [
+    let bad: [(&str, &str, &[&str]); 8] = [
+        ("--png", "the beginning of the pictures' names", &[""]),
+        ("--pdf", "the name of a file", &[""]),
         ("--color", "always, auto or never", &["", "yes", "ALWAYS"]),
         (
             "--dots",
@@ -1179,11 +1446,17 @@ fn bad_words() {
         refused(&[word, "300"], &problem);
     }
     refused(&["-a\nb"], "-a\\nb is no option; see card --help");
-    let problem = "--follow draws on the screen, and takes no --svg, --records or --json";
-    for words in [&["--svg", "x"][..], &["--records"], &["--json"]] {
+    let problem = "--follow draws on the screen: no pictures, --records or --json";
+    for words in [
+        &["--svg", "x"][..],
+        &["--pdf=x"],
+        &["--png=x"],
+        &["--records"],
+        &["--json"],
+    ] {
         refused(&[&["--follow"], words].concat(), problem);
     }
-    let problem = "--svg writes pictures, and takes no --slots, --records or --json";
+    let problem = "pictures are of pages: no --slots, --records or --json";
     for words in [
         &["--slots=1"][..],
         &["--slot-stops"],
@@ -1192,6 +1465,7 @@ fn bad_words() {
     ] {
         refused(&[&["--svg", "x"], words].concat(), problem);
     }
+    refused(&["--svg=x", "--pdf=x"], "one of --svg, --png and --pdf");
     refused(
         &["--records", "--slots=1"],
         "--records takes no slots; --json does",

@@ -90,9 +90,8 @@ impl Letter {
             _ => 2,
         };
         let mut widths = widths.iter().map(|width| width * times);
-        widths
-            .find(|&width| width <= self.advance)
-            .unwrap_or(self.advance)
+        let widest = widths.find(|&width| width <= self.advance);
+        widest.unwrap_or(self.advance)
     }
 
     pub fn is_blank(&self) -> bool {

@@ -2,6 +2,7 @@
 //! in the slots of a card; see `card --help`.
 
 mod braille;
+mod files;
 mod follow;
 #[cfg(test)]
 mod generated;
@@ -14,21 +15,27 @@ mod listing;
 mod options;
 mod page;
 mod passed;
+mod pdf;
+mod png;
 mod progress;
 mod reader;
+mod runs;
 mod slots;
 mod svg;
 mod terminal;
 mod text;
 
+use files::Pictures;
 use ierbulosc::State;
 use input::Input;
 use listing::Form;
-use options::{choice, Choice, Options, Slots, HELP};
+use options::{choice, Choice, Kind, Options, Slots, HELP};
 use page::Page;
 use passed::Passed;
+use pdf::Pdf;
 use progress::Progress;
 use reader::{Care, Reader};
+use std::ffi::OsStr;
 use std::fmt::Display;
 use std::io::{self, ErrorKind, IsTerminal, StdoutLock, Write};
 use std::process::ExitCode;
@@ -107,6 +114,43 @@ fn look(options: &Options) -> Look {
     }
 }
 
+/// The pictures that are being written.
+enum Drawing {
+    Svg(Pictures),
+    Png(Pictures),
+    Pdf(Pdf),
+}
+
+impl Drawing {
+    /// Pictures of this kind and name; a PDF has a title.
+    fn new(kind: Kind, name: &OsStr, title: &str) -> Outcome<Drawing> {
+        Ok(match kind {
+            Kind::Svg => Drawing::Svg(Pictures::new(name, ".svg")),
+            Kind::Png => Drawing::Png(Pictures::new(name, ".png")),
+            Kind::Pdf => Drawing::Pdf(Pdf::new(name, title)?),
+        })
+    }
+
+    /// Draws a page, of which these are the number in a file's name and the title.
+    fn page(&mut self, number: &str, title: &str, page: &Page, state: &State) -> Outcome<()> {
+        let title = format!("{title}, page {}", page.number);
+        match self {
+            Drawing::Svg(files) => {
+                files.write(number, svg::picture(&title, page, state).as_bytes())
+            }
+            Drawing::Png(files) => files.write(number, &png::picture(&title, page, state)),
+            Drawing::Pdf(pdf) => pdf.page(page, state),
+        }
+    }
+
+    fn finish(self) -> Outcome<()> {
+        match self {
+            Drawing::Svg(files) | Drawing::Png(files) => files.finish(),
+            Drawing::Pdf(pdf) => pdf.finish(),
+        }
+    }
+}
+
 /// What the pages are written to.
 struct Shown {
     options: Options,
@@ -116,8 +160,12 @@ struct Shown {
     text: String,
     progress: Progress,
     pages: u64,
-    /// The name of the capture, where there are several.
+    /// The name of the capture, where there are several, and which it is.
     name: Option<String>,
+    capture: usize,
+    /// Its title in pictures.
+    title: String,
+    drawing: Option<Drawing>,
     /// Whether a word of the text is not at its place.
     crowded: bool,
     /// Whether the slots named are not the card's.
@@ -136,6 +184,9 @@ impl Shown {
             progress: Progress::new(total),
             pages: 0,
             name: None,
+            capture: 0,
+            title: String::new(),
+            drawing: None,
             crowded: false,
             out_of_step: false,
             passed: false,
@@ -143,19 +194,30 @@ impl Shown {
     }
 
     /// Begins a capture, under its name where there are several.
-    fn begin(&mut self, name: Option<String>) {
-        let silent = self.options.svg.is_some() || self.options.listing == Some(Form::Json);
-        if let Some(name) = name.as_ref().filter(|_| !silent) {
-            self.text += &format!("==== {} ====\n", input::shown(name));
+    fn begin(&mut self, title: &str, several: bool) -> Outcome<()> {
+        let silent = self.options.picture.is_some() || self.options.listing == Some(Form::Json);
+        if several && !silent {
+            self.text += &format!("==== {} ====\n", input::shown(title));
         }
-        self.name = name;
+        self.name = several.then(|| title.into());
+        self.capture += 1;
+        // A picture's title has no folder.
+        self.title = title.rsplit('/').next().unwrap_or(title).into();
+        if let (None, Some((kind, name))) = (&self.drawing, &self.options.picture) {
+            self.drawing = Some(Drawing::new(*kind, name, &self.title)?);
+        }
+        Ok(())
     }
 
     /// Shows a page, as a picture or as text, or only counts it.
     fn page(&mut self, page: &Page, state: &State) -> Outcome<()> {
         self.pages += 1;
-        if let Some(prefix) = &self.options.svg {
-            return svg::write(prefix, page.number, page, state);
+        if let Some(drawing) = &mut self.drawing {
+            let number = match self.name {
+                Some(_) => format!("{}-{}", self.capture, page.number),
+                None => page.number.to_string(),
+            };
+            return drawing.page(&number, &self.title, page, state);
         }
         if self.options.slots.is_none() {
             if page.number > 1 {
@@ -229,7 +291,7 @@ impl Shown {
 
 /// What the reader must know of a page.
 fn care(options: &Options) -> Care {
-    if options.svg.is_some() {
+    if options.picture.is_some() {
         Care::Places
     } else if options.slots.is_some() {
         Care::Layout
@@ -250,12 +312,15 @@ fn run(options: Options) -> Outcome<()> {
     let totals = inputs.iter().map(|input| input.total);
     let mut shown = Shown::new(options, totals.sum());
     for mut input in inputs {
-        shown.begin(several.then(|| input.name.clone()));
+        shown.begin(&input.name, several)?;
         let done = read(&mut input, &mut shown);
         // Pages that were read before a failure are shown all the same.
         let written = shown.write();
         shown.progress.hide();
         done.and(written)?;
+    }
+    if let Some(drawing) = shown.drawing.take() {
+        drawing.finish()?;
     }
     shown.close()
 }

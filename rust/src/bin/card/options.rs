@@ -15,7 +15,10 @@ each page: letters at their places, images as dots.
   --auto-feed     a line feed after each carriage return
   --cpi N         cells of the text to the inch: 1 to 100 (if not given, 10, 12, 15, 17
                   or 20, as the letters of a page need)
-  --svg PREFIX    in place of text, a picture of each page: PREFIX-1.svg and so on
+  --svg PREFIX    in place of text, a picture of each page: PREFIX-1.svg and so on; or
+                  NAME.svg, DIR/ (DIR/page-1.svg and so on), - (standard output)
+  --png PREFIX    the same as dots of the printer, with letters as boxes
+  --pdf FILE      in place of text, all pages in one PDF; - is standard output
   --slots LIST    in place of text, at the end, what stands in each slot now; LIST is
                   where slots begin, from the left of the paper: columns, 10 to the
                   inch, 10,20,30, or of another pitch, 10,20,30@12 (10, 12, 15, 17
@@ -75,6 +78,8 @@ const WIDTH: &str = "--width takes 7200 to 28800";
 const CPI: &str = "--cpi takes 1 to 100";
 const COLOR: &str = "--color takes always, auto or never";
 const SVG: &str = "--svg takes the beginning of the pictures' names";
+const PNG: &str = "--png takes the beginning of the pictures' names";
+const PDF: &str = "--pdf takes the name of a file";
 const SLOTS: &str = "--slots takes places on 8 inches of paper, ascending: columns as 10,20,30 \
                      or, of another pitch, 10,20,30@12 (10, 12, 15, 17, 20); 1in,2.5in; 3600u";
 
@@ -97,14 +102,22 @@ pub enum Named {
     Inches,
 }
 
+/// The kinds of pictures.
+#[derive(Clone, Copy, PartialEq, Eq, Debug)]
+pub enum Kind {
+    Svg,
+    Png,
+    Pdf,
+}
+
 /// What is asked for.
 #[derive(Clone, PartialEq, Eq, Default, Debug)]
 pub struct Options {
     pub settings: Settings,
     /// Cells of the text to an inch; none: as the page needs.
     pub cpi: Option<u32>,
-    /// The beginning of the names of pictures, if such are to be written.
-    pub svg: Option<OsString>,
+    /// The pictures, if such are to be written, and their name.
+    pub picture: Option<(Kind, OsString)>,
     pub slots: Option<Slots>,
     /// Whether records are listed, or slots told, and how.
     pub listing: Option<Form>,
@@ -127,6 +140,20 @@ pub enum Choice {
 }
 
 impl Options {
+    /// Asks for pictures of this name.
+    fn draw(&mut self, kind: Kind, name: OsString, taken: &str) -> Result<(), String> {
+        if name.is_empty() {
+            return Err(taken.into());
+        }
+        match &self.picture {
+            Some((other, _)) if *other != kind => Err("one of --svg, --png and --pdf".into()),
+            _ => {
+                self.picture = Some((kind, name));
+                Ok(())
+            }
+        }
+    }
+
     /// The captures: the files of each.
     pub fn captures(&self) -> Vec<Vec<OsString>> {
         if self.join || self.files.len() < 2 {
@@ -190,7 +217,9 @@ fn set(
         "--dots" => options.settings.resolution = number(value()).ok_or(DOTS)?,
         "--width" => options.settings.width = number(value()).ok_or(WIDTH)?,
         "--cpi" => options.cpi = Some(number(value()).ok_or(CPI)?),
-        "--svg" => options.svg = Some(value().filter(|prefix| !prefix.is_empty()).ok_or(SVG)?),
+        "--svg" => options.draw(Kind::Svg, value().ok_or(SVG)?, SVG)?,
+        "--png" => options.draw(Kind::Png, value().ok_or(PNG)?, PNG)?,
+        "--pdf" => options.draw(Kind::Pdf, value().ok_or(PDF)?, PDF)?,
         "--slots" => {
             let list = value().and_then(|list| places(list.to_str()?));
             options.slots = Some(list.ok_or(SLOTS)?);
@@ -271,11 +300,11 @@ fn whole(options: &Options) -> Result<(), String> {
         return Err(CPI.into());
     }
     let listed = options.listing.is_some();
-    if options.follow && (listed || options.svg.is_some()) {
-        return Err("--follow draws on the screen, and takes no --svg, --records or --json".into());
+    if options.follow && (listed || options.picture.is_some()) {
+        return Err("--follow draws on the screen: no pictures, --records or --json".into());
     }
-    if options.svg.is_some() && (listed || options.slots.is_some()) {
-        return Err("--svg writes pictures, and takes no --slots, --records or --json".into());
+    if options.picture.is_some() && (listed || options.slots.is_some()) {
+        return Err("pictures are of pages: no --slots, --records or --json".into());
     }
     if options.listing == Some(Form::Words) && options.slots.is_some() {
         return Err("--records takes no slots; --json does".into());

@@ -11,11 +11,13 @@ const MANY_IMAGES: usize = 1 << 17;
 /// A letter's font, which nothing shows, among the bytes of its record.
 const FONT: usize = 7;
 
-/// An exact place on the page, in units.
+/// An exact place on the page, in units, and the space behind a letter, which is
+/// doubled with its width.
 #[derive(Clone, Copy)]
 pub struct Place {
     pub across: u32,
     pub down: u32,
+    pub space: u32,
 }
 
 /// Records of one kind that stand on a page, as they came. What a CL has voided

@@ -13,6 +13,9 @@ const OUTPUT: usize = 1 << 16;
 const PIECE: usize = 2_048;
 const _: () = assert!(PIECE * ROOM <= OUTPUT);
 
+/// The units of space that ESC SP counts in.
+const SPACE: u32 = 20;
+
 /// What is asked for of a page beside its records.
 #[derive(Clone, Copy, PartialEq, Eq)]
 pub enum Care {
@@ -220,6 +223,7 @@ impl Reader {
         let mut place = (self.care == Care::Places).then(|| Place {
             across: self.state.across - records.clone().filter_map(step).sum::<u32>(),
             down: self.state.down,
+            space: SPACE * self.state.spacing,
         });
         for record in records {
             passed |= record[0] == b'N';

@@ -1,44 +1,26 @@
-//! A page as a picture: an SVG in the page's real size, with each letter as
-//! text in the viewer's own font, and the dots of image bytes.
+//! A page as an SVG in the page's real size: letters as text in the viewer's own
+//! font, and the dots of image bytes.
 //!
-//! Lengths are in units of 1/3600 inch. A letter hangs below its row by the
-//! height of a print head of 24 needles, 480 units, as an image column does.
+//! Lengths are in units of 1/3600 inch.
 
 use crate::braille::down;
-use crate::letters::{
-    character, is_blank, BOLD, DOUBLE_HEIGHT, DOUBLE_STRIKE, ITALIC, OUTLINE, SHADOW, SUBSCRIPT,
-    SUPERSCRIPT, UNDERLINE,
-};
+use crate::files::MARK;
+use crate::letters::{BOLD, DOUBLE_STRIKE, ITALIC, OUTLINE, SHADOW, UNDERLINE};
 use crate::page::Page;
-use crate::{failed, Outcome};
+use crate::runs::{runs, Run, SIZE};
 use ierbulosc::{Record, State};
-use std::ffi::{OsStr, OsString};
 use std::fmt::{self, Write};
-use std::fs;
 
-/// The size of letters, ten points, and of those of a script.
-const SIZE: u32 = 500;
-const SCRIPT_SIZE: u32 = 340;
-/// How far their baseline lies below their row.
-const BASELINE: u32 = 400;
-const SUPERSCRIPT_BASELINE: u32 = 260;
-const SUBSCRIPT_BASELINE: u32 = 480;
-/// How much further that of a letter of double height does.
-const LOWERED: u32 = 480;
+/// What shows around the paper: accents of the first row are above its edge.
+const BORDER: u32 = 360;
+/// The width of a letter of [`SIZE`] in a font of even widths.
+const NATURAL: u32 = 300;
 
-/// Writes the picture of a page with this number.
-pub fn write(prefix: &OsStr, number: u64, page: &Page, state: &State) -> Outcome<()> {
-    let mut path = OsString::from(prefix);
-    path.push(format!("-{number}.svg"));
-    let written = fs::write(&path, picture(number, page, state));
-    written.map_err(|error| failed(path.to_string_lossy(), error))
-}
-
-/// The picture of a page.
-fn picture(number: u64, page: &Page, state: &State) -> String {
+/// The picture of a page, of which this is the title.
+pub fn picture(title: &str, page: &Page, state: &State) -> String {
     let mut svg = String::new();
     // Writing to a string does not fail.
-    let _ = head(&mut svg, number, state);
+    let _ = head(&mut svg, title, state);
     images(&mut svg, page);
     letters(&mut svg, page, state);
     svg + "</svg>\n"
@@ -57,29 +39,58 @@ fn whole(svg: &mut String, mut number: u32) {
     svg.extend(digits[begin..].iter().map(|&digit| char::from(digit)));
 }
 
-/// The paper in its real size, and the margins: left, right and, where lines
-/// are skipped, the edge.
-fn head(svg: &mut String, number: u64, state: &State) -> fmt::Result {
+/// Appends a fraction, to the nearest thousandth.
+fn fraction(svg: &mut String, above: u32, below: u32) {
+    let thousandths = (u64::from(above) * 1_000 + u64::from(below) / 2) / u64::from(below);
+    whole(svg, (thousandths / 1_000) as u32);
+    let mut rest = (thousandths % 1_000) as u32;
+    if rest > 0 {
+        svg.push('.');
+        while rest > 0 {
+            whole(svg, rest / 100);
+            rest = rest % 100 * 10;
+        }
+    }
+}
+
+/// The paper in its real size within its border, and the margins: left, right and,
+/// where lines are skipped, the edge. Printed, it is one sheet.
+fn head(svg: &mut String, title: &str, state: &State) -> fmt::Result {
     let (width, height) = (state.paper_width, state.page);
     let (left, right, edge) = (state.left, state.right, state.page - state.skip);
+    let (whole_width, whole_height) = (width + 2 * BORDER, height + 2 * BORDER);
     let inches = |units: u32| f64::from(units) / 3_600.0;
-    let (across, along) = (inches(width), inches(height));
+    let (across, along) = (inches(whole_width), inches(whole_height));
     writeln!(svg, r#"<?xml version="1.0" encoding="UTF-8"?>"#)?;
+    writeln!(svg, "<!-- {MARK} -->")?;
     write!(
         svg,
         r#"<svg xmlns="http://www.w3.org/2000/svg" width="{across}in" height="{along}in""#
     )?;
-    writeln!(svg, r#" viewBox="0 0 {width} {height}">"#)?;
-    writeln!(svg, "<title>Page {number}</title>")?;
     writeln!(
         svg,
-        r#"<rect width="{width}" height="{height}" fill="white"/>"#
+        r#" viewBox="-{BORDER} -{BORDER} {whole_width} {whole_height}">"#
+    )?;
+    svg.push_str("<title>");
+    title.chars().for_each(|sign| escaped(svg, sign));
+    svg.push_str("</title>\n");
+    writeln!(
+        svg,
+        "<style>@page{{size:{across}in {along}in;margin:0}}</style>"
+    )?;
+    writeln!(
+        svg,
+        r##"<rect x="-{BORDER}" y="-{BORDER}" width="{whole_width}" height="{whole_height}" fill="#f6f6f6"/>"##
+    )?;
+    // A hundredth of an inch: some one element of a screen.
+    writeln!(
+        svg,
+        r##"<rect width="{width}" height="{height}" fill="white" stroke="#c8c8c8" stroke-width="36"/>"##
     )?;
     write!(svg, r#"<path d="M{left} 0V{height}M{right} 0V{height}"#)?;
     if edge < height {
         write!(svg, "M0 {edge}H{width}")?;
     }
-    // A hundredth of an inch: some one element of a screen.
     writeln!(svg, r##"" stroke="#c8c8c8" stroke-width="36"/>"##)
 }
 
@@ -128,59 +139,64 @@ fn dots(path: &mut String, byte: u8, (left, top): (u32, u32), (width, height): (
     }
 }
 
-/// The letters, each at its place and as wide as its advance.
+/// The letters: a text for each run, with the place of each letter.
 fn letters(svg: &mut String, page: &Page, state: &State) {
-    let shadowed =
-        |record: Record| matches!(record, Record::Tx { style, .. } if style & SHADOW != 0);
-    if page.letters.records().any(shadowed) {
-        *svg += r#"<filter id="shadow"><feDropShadow dx="24" dy="24" "#;
-        *svg += "stdDeviation=\"0\" flood-opacity=\"0.4\"/></filter>\n";
+    let runs = runs(page, state);
+    if runs.iter().any(|run| run.style & SHADOW != 0) {
+        *svg += r#"<filter id="shadow"><feOffset dx="24" dy="24"/><feComponentTransfer>"#;
+        *svg += r#"<feFuncA type="linear" slope="0.4"/></feComponentTransfer><feMerge>"#;
+        *svg += "<feMergeNode/><feMergeNode in=\"SourceGraphic\"/></feMerge></filter>\n";
     }
     *svg += &format!("<g font-family=\"monospace\" font-size=\"{SIZE}\">\n");
-    for (record, place) in page.letters.records().zip(&page.letters.places) {
-        if let Record::Tx {
-            byte,
-            style,
-            country,
-            advance,
-            ..
-        } = record
-        {
-            let (sign, style) = character(byte, style, country, state.dots_across);
-            if is_blank(sign) && style & UNDERLINE == 0 {
-                continue;
-            }
-            let (size, baseline) = hanging(style);
-            *svg += "<text x=\"";
-            whole(svg, place.across);
-            *svg += "\" y=\"";
-            whole(svg, place.down + baseline);
-            *svg += "\" textLength=\"";
-            whole(svg, advance.into());
-            *svg += "\" lengthAdjust=\"spacingAndGlyphs\"";
-            attributes(svg, style, size);
-            svg.push('>');
-            escaped(svg, sign);
-            *svg += "</text>\n";
-        }
+    for run in &runs {
+        text(svg, run);
     }
     *svg += "</g>\n";
 }
 
-/// The size of a letter of this style, and how far its baseline lies below its
-/// row.
-fn hanging(style: u16) -> (u32, u32) {
-    let (size, baseline) = if style & SUPERSCRIPT != 0 {
-        (SCRIPT_SIZE, SUPERSCRIPT_BASELINE)
-    } else if style & SUBSCRIPT != 0 {
-        (SCRIPT_SIZE, SUBSCRIPT_BASELINE)
-    } else {
-        (SIZE, BASELINE)
-    };
-    if style & DOUBLE_HEIGHT != 0 {
-        return (2 * size, baseline + LOWERED);
+/// The text of a run. Its letters are as wide as they are by themselves, whatever
+/// space is between them: the whole is stretched, and the places are shrunk.
+fn text(svg: &mut String, run: &Run) {
+    let (size, baseline) = run.hanging();
+    let height = if run.is_tall() { 2 } else { 1 };
+    let stretched = (run.own, NATURAL * height);
+    *svg += "<text ";
+    if stretched.0 != stretched.1 {
+        *svg += "transform=\"scale(";
+        fraction(svg, stretched.0, stretched.1);
+        *svg += " 1)\" ";
     }
-    (size, baseline)
+    *svg += "x=\"";
+    for place in 0..run.count {
+        if place > 0 {
+            svg.push(' ');
+        }
+        let across = run.place.across + place * run.advance;
+        fraction(svg, across * stretched.1, stretched.0);
+    }
+    *svg += "\" y=\"";
+    whole(svg, run.place.down + baseline);
+    svg.push('"');
+    if run.advance > run.own {
+        // For viewers that know only the first place.
+        *svg += " letter-spacing=\"";
+        fraction(svg, (run.advance - run.own) * stretched.1, stretched.0);
+        svg.push('"');
+    }
+    attributes(svg, run.style, size);
+    svg.push('>');
+    for sign in run.text.chars() {
+        // Blanks that are underlined must not be taken away.
+        escaped(
+            svg,
+            if run.is_underlined() && sign == ' ' {
+                '\u{a0}'
+            } else {
+                sign
+            },
+        );
+    }
+    *svg += "</text>\n";
 }
 
 /// What shows a style.
@@ -189,10 +205,10 @@ fn attributes(svg: &mut String, style: u16, size: u32) {
         *svg += &format!(r#" font-size="{size}""#);
     }
     let shown = [
-        (BOLD | DOUBLE_STRIKE, r#" font-weight="bold""#),
+        (BOLD | DOUBLE_STRIKE | OUTLINE, r#" font-weight="bold""#),
         (ITALIC, r#" font-style="italic""#),
         (UNDERLINE, r#" text-decoration="underline""#),
-        (OUTLINE, r#" fill="white" stroke="black" stroke-width="12""#),
+        (OUTLINE, r#" fill="white" stroke="black" stroke-width="24""#),
         (SHADOW, r#" filter="url(#shadow)""#),
     ];
     let shown = shown.iter().filter(|(bits, _)| style & bits != 0);
@@ -205,7 +221,7 @@ fn escaped(svg: &mut String, sign: char) {
         '&' => *svg += "&amp;",
         '<' => *svg += "&lt;",
         '>' => *svg += "&gt;",
-        ' ' => svg.push('\u{a0}'),
+        '\0'..='\x1F' => svg.push('\u{fffd}'),
         _ => svg.push(sign),
     }
 }
