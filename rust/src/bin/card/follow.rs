@@ -40,6 +40,8 @@ struct Screen {
     frame: String,
     drawn: Instant,
     size: Option<(usize, usize)>,
+    /// Whether something was passed over.
+    passed: bool,
 }
 
 /// What the input sends.
@@ -53,19 +55,10 @@ enum Sent {
 /// Reads all, and draws what is there whenever something has come, or the window
 /// has another size.
 pub fn run(options: Options) -> Outcome<()> {
-    let mut inputs = inputs(&options)?;
+    let inputs = inputs(&options)?;
     let several = inputs.len() > 1;
-    // Those before the last end, so that it is reached.
-    let last = inputs.len() - 1;
-    inputs[..last]
-        .iter_mut()
-        .for_each(|input| input.may_grow = false);
     let (sender, pieces) = sync_channel(WAITING);
-    thread::spawn(move || {
-        inputs
-            .into_iter()
-            .try_for_each(|input| send(input, &sender))
-    });
+    thread::spawn(move || send_all(inputs, &sender));
     let mut reader = Reader::new(&options.settings, care(&options));
     let mut screen = Screen::new(options);
     screen.draw(&mut reader)?;
@@ -83,16 +76,12 @@ pub fn run(options: Options) -> Outcome<()> {
                 stale = stale.or(Some(screen.drawn));
             }
             Next::Sent(Sent::Failed(failure)) => return Err(screen.end(&mut reader, failure)),
+            Next::Pause if stale.is_none() && !screen.is_resized() => {}
             Next::Pause => {
                 screen.draw(&mut reader)?;
                 stale = None;
             }
-            Next::End => {
-                screen.draw(&mut reader)?;
-                let passed = screen.tell(&reader);
-                let strict = screen.options.strict && passed;
-                return if strict { Err(Failure::Passed) } else { Ok(()) };
-            }
+            Next::End => return screen.close(&mut reader),
         }
     }
 }
@@ -122,6 +111,17 @@ fn next(pieces: &Receiver<Sent>, stale: Option<Instant>, terminal: bool) -> Next
         Err(RecvTimeoutError::Timeout) => Next::Pause,
         Err(RecvTimeoutError::Disconnected) => Next::End,
     }
+}
+
+/// Sends the captures on, one after the other. Those before the last end, so that it
+/// is reached.
+fn send_all(inputs: Vec<Input>, pieces: &SyncSender<Sent>) -> Option<()> {
+    let last = inputs.len() - 1;
+    for (place, mut input) in inputs.into_iter().enumerate() {
+        input.may_grow &= place == last;
+        send(input, pieces)?;
+    }
+    Some(())
 }
 
 /// Sends a capture on, in pieces as they come; none if it is not to go on. A file
@@ -155,6 +155,7 @@ impl Screen {
             frame: String::new(),
             drawn: Instant::now(),
             size: None,
+            passed: false,
         }
     }
 
@@ -163,15 +164,35 @@ impl Screen {
         (self.name, self.turned) = (name, None);
     }
 
-    /// Tells what was passed over; whether something was.
-    fn tell(&self, reader: &Reader) -> bool {
-        let words = reader.passed().words();
-        match (&words, &self.name) {
-            (Some(words), Some(name)) => complain(&format!("{name}: {words}")),
-            (Some(words), None) => complain(words),
-            (None, _) => {}
+    /// Tells what was passed over of a capture.
+    fn tell(&mut self, reader: &Reader) {
+        if let Some(words) = reader.passed().words() {
+            self.passed = true;
+            match &self.name {
+                Some(name) => complain(&format!("{name}: {words}")),
+                None => complain(&words),
+            }
         }
-        words.is_some()
+    }
+
+    /// Draws the last frame, and says what is to be said at the end.
+    fn close(&mut self, reader: &mut Reader) -> Outcome<()> {
+        self.draw(reader)?;
+        self.tell(reader);
+        match self.passed && self.options.strict {
+            true => Err(Failure::Passed),
+            false => Ok(()),
+        }
+    }
+
+    /// The size of the screen, if it is one that has a size.
+    fn size(&self) -> Option<(usize, usize)> {
+        self.terminal.then(terminal::size).flatten()
+    }
+
+    /// Whether the screen has another size than when it was drawn last.
+    fn is_resized(&self) -> bool {
+        self.size() != self.size
     }
 
     /// A page is turned: it stays on the screen until the next has something on
@@ -192,7 +213,7 @@ impl Screen {
     fn draw(&mut self, reader: &mut Reader) -> Outcome<()> {
         self.drawn = Instant::now();
         reader.settle();
-        let size = self.terminal.then(terminal::size).flatten();
+        let size = self.size();
         self.look.columns = size.map(|(_, columns)| columns);
         let mut frame = self.frame(reader);
         if let Some((rows, columns)) = size {

@@ -81,23 +81,11 @@ fn open(file: Option<&str>, text: &mut String) {
 fn fields(record: Record, dots: u32, text: &mut String) -> std::fmt::Result {
     match record {
         Record::Tx {
-            column,
-            row,
-            byte,
-            font,
-            style,
-            country,
-            advance,
+            column, row, byte, ..
         } => {
             write!(text, "\"record\":\"TX\",\"column\":{column},\"row\":{row}")?;
-            write!(text, ",\"byte\":{byte},\"font\":{font},\"style\":{style}")?;
-            write!(
-                text,
-                ",\"country\":{country},\"advance\":{advance},\"character\":"
-            )?;
-            let sign = character(byte, style, country, dots).0;
-            quoted(sign.encode_utf8(&mut [0; 4]), text);
-            writeln!(text, "}}")
+            write!(text, ",\"byte\":{byte}")?;
+            letter(record, dots, text)?;
         }
         Record::Im {
             column,
@@ -107,22 +95,45 @@ fn fields(record: Record, dots: u32, text: &mut String) -> std::fmt::Result {
             advance,
         } => {
             write!(text, "\"record\":\"IM\",\"column\":{column},\"row\":{row}")?;
-            writeln!(
+            write!(
                 text,
-                ",\"byte\":{byte},\"part\":{part},\"advance\":{advance}}}"
-            )
+                ",\"byte\":{byte},\"part\":{part},\"advance\":{advance}"
+            )?;
         }
         Record::Ln { row, pages } => {
-            writeln!(text, "\"record\":\"LN\",\"row\":{row},\"pages\":{pages}}}")
+            write!(text, "\"record\":\"LN\",\"row\":{row},\"pages\":{pages}")?;
         }
-        Record::Cl => writeln!(text, "\"record\":\"CL\"}}"),
+        Record::Cl => text.push_str("\"record\":\"CL\""),
         Record::No { byte, reason } => {
-            writeln!(
+            write!(
                 text,
-                "\"record\":\"NO\",\"byte\":{byte},\"reason\":{reason}}}"
-            )
+                "\"record\":\"NO\",\"byte\":{byte},\"reason\":{reason}"
+            )?;
         }
     }
+    writeln!(text, "}}")
+}
+
+/// The other fields of a letter, and its character.
+fn letter(record: Record, dots: u32, text: &mut String) -> std::fmt::Result {
+    if let Record::Tx {
+        byte,
+        font,
+        style,
+        country,
+        advance,
+        ..
+    } = record
+    {
+        write!(
+            text,
+            ",\"font\":{font},\"style\":{style},\"country\":{country}"
+        )?;
+        write!(text, ",\"advance\":{advance},\"character\":")?;
+        let sign = character(byte, style, country, dots).0;
+        quoted(sign.encode_utf8(&mut [0; 4]), text);
+    }
+    Ok(())
 }
 
 /// Appends an object for each slot.

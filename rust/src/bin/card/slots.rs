@@ -138,34 +138,49 @@ impl<'a> Card<'a> {
         let parted = |place: &usize| self.is_parted(&inked, *place);
         let begin = (1..=first).rev().find(parted).unwrap_or(0);
         let last = (past..inked.len()).find(parted).unwrap_or(inked.len());
-        let text = &inked[begin..last];
         let is_own = begin == first;
-        let has_gap = self.has_gap(text);
-        let notes = [
+        let text = &inked[begin..last];
+        let mut notes = told(&[
             (!is_own, "begins before the slot"),
             (
                 is_own && self.is_after_label(&inked[..=first]),
                 "follows other text",
             ),
+            (last > past, "runs past the slot"),
+        ]);
+        let is_last = last == inked.len();
+        notes.extend(self.doubts(slot, text, is_own, is_last.then_some(&line)));
+        Some(Text {
+            words: words(text, self.dots()),
+            letters: inked[first..past].to_vec(),
+            is_late: is_own && !self.is_at(&inked[first], from),
+            notes,
+        })
+    }
+
+    /// Why a text may not be whole, or not one: whether it is the slot's own, and the
+    /// line if it is the last there.
+    fn doubts(
+        &self,
+        slot: usize,
+        text: &[Letter],
+        is_own: bool,
+        line: Option<&Vec<Letter>>,
+    ) -> Vec<&'static str> {
+        let has_gap = self.has_gap(text);
+        told(&[
             (
-                is_own && self.is_continued(&inked[first]),
+                is_own && self.is_continued(&text[0]),
                 "goes on from the line above",
             ),
-            (last > past, "runs past the slot"),
             (
-                last == inked.len() && self.goes_on(slot, &line, text),
+                line.is_some_and(|line| self.goes_on(slot, line, text)),
                 "goes on in the line below",
             ),
             (has_gap, "has a gap"),
             (!has_gap && !is_one(text), "printed in pieces"),
             (is_struck(text), "struck over other text"),
-        ];
-        Some(Text {
-            words: words(text, self.dots()),
-            letters: inked[first..past].to_vec(),
-            is_late: is_own && !self.is_at(&inked[first], from),
-            notes: told(&notes),
-        })
+        ])
     }
 
     /// What is said of a slot; the slots are those of the card, or not.
