@@ -173,6 +173,16 @@ fn pages_and_a_voided_line() {
     as_stored("pages", &[1, 2, 4], &[], "");
 }
 
+/// A form: channel 3 has stops at lines 2 and 6, and channel 5 at line 8, where
+/// ESC B's is at line 4.
+#[test]
+fn vertical_channels() {
+    let form = b"\x1Bb\x03\x02\x06\x00\x1Bb\x05\x08\x00\x1BB\x04\x00";
+    let fields = b"\x1B/\x03A\x0BB\x0BC\x1B/\x05\x0BD";
+    let came = prints(&[], &[&form[..], fields].concat());
+    assert_eq!(came, "A\n\nB\n\n\n\nC\n\nD\n");
+}
+
 #[test]
 fn images_of_every_mode() {
     let said = "card: passed over: 1 not allowed (first at byte 630)\n";
