@@ -1117,6 +1117,46 @@ fn names_of_pictures() {
     assert_eq!(folder.names(), names);
 }
 
+/// A run removes only what a run by the same word has written, though other words
+/// have the same names.
+#[test]
+fn pictures_of_other_words() {
+    let folder = Folder::new("card-words");
+    let path = |name: &str| folder.0.join(name).to_str().unwrap().to_string();
+    for (kind, end) in [("--svg", ".svg"), ("--png", ".png")] {
+        let has = |list: &[&str]| {
+            let names: Vec<String> = list.iter().map(|name| format!("{name}{end}")).collect();
+            assert_eq!(folder.names(), names, "{kind}");
+        };
+        prints(&[kind, &path("page-2")], b"A");
+        prints(&[kind, &path("page-3"), "-", "/dev/null"], b"A");
+        prints(&[kind, &path(&format!("page-4{end}"))], b"\x0C\x0C\x0CA");
+        let own = ["page-2-1", "page-3-1-1", "page-4"];
+        has(&own);
+        let standard = run(&[kind, "-"], b"\x0C\x0C\x0C\x0CA").stdout;
+        fs::write(path(&format!("page-5{end}")), standard).unwrap();
+        for word in ["page", "", &format!("page{end}")] {
+            prints(&[kind, &path(word), "-", "/dev/null"], b"A\x0CB");
+            prints(&[kind, &path(word)], b"A");
+            let first = if word.ends_with(end) {
+                "page"
+            } else {
+                "page-1"
+            };
+            let first = format!("{first}{end}");
+            assert_eq!(folder.names().len(), own.len() + 2, "{:?}", folder.names());
+            fs::remove_file(path(&first)).unwrap();
+        }
+        fs::remove_file(path(&format!("page-5{end}"))).unwrap();
+        has(&own);
+        // By its own word each goes.
+        prints(&[kind, &path("page-2")], b"");
+        prints(&[kind, &path("page-3")], b"");
+        has(&["page-4"]);
+        fs::remove_file(path(&format!("page-4{end}"))).unwrap();
+    }
+}
+
 /// A picture appears whole or not at all.
 #[test]
 fn pictures_that_fail() {

@@ -9,8 +9,7 @@ use std::io::{self, Read, Write};
 use std::os::unix::ffi::OsStrExt;
 use std::path::{Path, PathBuf};
 
-/// What is in every picture, among its first bytes, so that an earlier run's is
-/// known.
+/// What is in every picture, among its first bytes.
 pub const MARK: &str = "Ierbulosc card";
 /// As many bytes are searched for it.
 const SEARCHED: u64 = 1 << 10;
@@ -48,13 +47,28 @@ impl Pictures {
         }
     }
 
+    /// What the picture of the page of this number says of itself, so that an earlier
+    /// run's is known: the number too, if it is in the name, since `x-2-1` may be by
+    /// the word `x` or by `x-2`.
+    pub fn mark(&self, number: &str) -> String {
+        if self.begin == STANDARD || self.is_plain() {
+            return MARK.into();
+        }
+        marked(number)
+    }
+
+    /// Whether the next picture has no number in its name.
+    fn is_plain(&self) -> bool {
+        self.plain && self.written.is_empty()
+    }
+
     /// Writes the picture of the page of this number.
     pub fn write(&mut self, number: &str, picture: &[u8]) -> Outcome<()> {
         if self.begin == STANDARD {
             let mut out = io::stdout().lock();
             return out.write_all(picture).map_err(unwritten);
         }
-        let path = if self.plain && self.written.is_empty() {
+        let path = if self.is_plain() {
             let stem = self.begin.as_bytes().strip_suffix(b"-").unwrap_or_default();
             joined(OsStr::from_bytes(stem), "", self.end)
         } else {
@@ -84,8 +98,8 @@ impl Pictures {
         let other = |path: &PathBuf| !self.written.contains(path.file_name().unwrap_or_default());
         let entries = fs::read_dir(folder).map_err(|error| failed(folder.display(), error))?;
         let paths = entries.flatten().map(|entry| entry.path());
-        let of_page = |path: &PathBuf| is_of_page(path, name, self.end);
-        for path in paths.filter(of_page).filter(other).filter(is_marked) {
+        let of_run = |path: &PathBuf| is_of_run(path, name, self.end);
+        for path in paths.filter(other).filter(of_run) {
             fs::remove_file(&path).map_err(|error| failed(path.display(), error))?;
         }
         Ok(())
@@ -100,24 +114,28 @@ fn joined(begin: &OsStr, number: &str, end: &str) -> PathBuf {
     path.into()
 }
 
-/// Whether a path's name has a page's number between these.
-fn is_of_page(path: &Path, begin: &OsStr, end: &str) -> bool {
+/// The mark of a picture with this number in its name.
+fn marked(number: &str) -> String {
+    format!("{MARK} ({number})")
+}
+
+/// Whether a file is a picture of this program, with a page's number between these
+/// in its name.
+fn is_of_run(path: &Path, begin: &OsStr, end: &str) -> bool {
     let name = path.file_name().unwrap_or_default().as_bytes();
     let number = name.strip_prefix(begin.as_bytes());
     let number = number.and_then(|rest| rest.strip_suffix(end.as_bytes()));
-    let digit = |byte: &u8| byte.is_ascii_digit() || *byte == b'-';
-    number.is_some_and(|number| !number.is_empty() && number.iter().all(digit))
+    let number = number.and_then(|number| std::str::from_utf8(number).ok());
+    number.is_some_and(|number| begins_with(path, &marked(number)))
 }
 
-/// Whether a file is a picture of this program.
-fn is_marked(path: &PathBuf) -> bool {
+/// Whether these words are among a file's first bytes.
+fn begins_with(path: &Path, words: &str) -> bool {
     let mut begin = Vec::new();
     let file = File::open(path);
     let read = file.and_then(|file| file.take(SEARCHED).read_to_end(&mut begin));
-    read.is_ok()
-        && begin
-            .windows(MARK.len())
-            .any(|part| part == MARK.as_bytes())
+    let mut parts = begin.windows(words.len());
+    read.is_ok() && parts.any(|part| part == words.as_bytes())
 }
 
 /// A file that is being written, under another name until it is whole.

@@ -136,9 +136,13 @@ impl Drawing {
         let title = format!("{title}, page {}", page.number);
         match self {
             Drawing::Svg(files) => {
-                files.write(number, svg::picture(&title, page, state).as_bytes())
+                let picture = svg::picture(&files.mark(number), &title, page, state);
+                files.write(number, picture.as_bytes())
             }
-            Drawing::Png(files) => files.write(number, &png::picture(&title, page, state)),
+            Drawing::Png(files) => {
+                let picture = png::picture(&files.mark(number), &title, page, state);
+                files.write(number, &picture)
+            }
             Drawing::Pdf(pdf) => pdf.page(page, state),
         }
     }

@@ -16,7 +16,8 @@ each page: letters at their places, images as dots.
   --cpi N         cells of the text to the inch: 1 to 100 (if not given, 10, 12, 15, 17
                   or 20, as the letters of a page need)
   --svg PREFIX    in place of text, a picture of each page: PREFIX-1.svg and so on; or
-                  NAME.svg, DIR/ (DIR/page-1.svg and so on), - (standard output)
+                  NAME.svg, DIR/ (DIR/page-1.svg and so on), - (standard output);
+                  of several files PREFIX-2-1.svg is the second one's first page
   --png PREFIX    the same as dots of the printer, with letters as boxes
   --pdf FILE      in place of text, all pages in one PDF; - is standard output
   --slots LIST    in place of text, at the end, what stands in each slot now; LIST is

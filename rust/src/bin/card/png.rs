@@ -2,7 +2,6 @@
 //! printed, letters as boxes of their size.
 
 use crate::braille::down;
-use crate::files::MARK;
 use crate::page::Page;
 use crate::runs::runs;
 use ierbulosc::{Record, State};
@@ -61,8 +60,8 @@ fn dot(units: u32, dots: u32) -> u32 {
     (units * dots + 1_800) / 3_600
 }
 
-/// The picture of a page.
-pub fn picture(title: &str, page: &Page, state: &State) -> Vec<u8> {
+/// The picture of a page, of which these are the mark and the title.
+pub fn picture(mark: &str, title: &str, page: &Page, state: &State) -> Vec<u8> {
     let mut dots = Dots::new(state);
     images(&mut dots, page);
     letters(&mut dots, page, state);
@@ -75,7 +74,7 @@ pub fn picture(title: &str, page: &Page, state: &State) -> Vec<u8> {
     let mut scale = [meter(dots.across), meter(dots.down)].concat();
     scale.push(1);
     chunk(&mut png, b"pHYs", &scale);
-    chunk(&mut png, b"tEXt", format!("Software\0{MARK}").as_bytes());
+    chunk(&mut png, b"tEXt", format!("Software\0{mark}").as_bytes());
     let title = ["Title\0\0\0\0\0".as_bytes(), title.as_bytes()].concat();
     chunk(&mut png, b"iTXt", &title);
     let stride = dots.stride;

@@ -4,7 +4,6 @@
 //! Lengths are in units of 1/3600 inch.
 
 use crate::braille::down;
-use crate::files::MARK;
 use crate::letters::{BOLD, DOUBLE_STRIKE, ITALIC, OUTLINE, SHADOW, UNDERLINE};
 use crate::page::Page;
 use crate::runs::{runs, Run, SIZE};
@@ -16,11 +15,11 @@ const BORDER: u32 = 360;
 /// The width of a letter of [`SIZE`] in a font of even widths.
 const NATURAL: u32 = 300;
 
-/// The picture of a page, of which this is the title.
-pub fn picture(title: &str, page: &Page, state: &State) -> String {
+/// The picture of a page, of which these are the mark and the title.
+pub fn picture(mark: &str, title: &str, page: &Page, state: &State) -> String {
     let mut svg = String::new();
     // Writing to a string does not fail.
-    let _ = head(&mut svg, title, state);
+    let _ = head(&mut svg, mark, title, state);
     images(&mut svg, page);
     letters(&mut svg, page, state);
     svg + "</svg>\n"
@@ -55,14 +54,14 @@ fn fraction(svg: &mut String, above: u32, below: u32) {
 
 /// The paper in its real size within its border, and the margins: left, right and,
 /// where lines are skipped, the edge. Printed, it is one sheet.
-fn head(svg: &mut String, title: &str, state: &State) -> fmt::Result {
+fn head(svg: &mut String, mark: &str, title: &str, state: &State) -> fmt::Result {
     let (width, height) = (state.paper_width, state.page);
     let (left, right, edge) = (state.left, state.right, state.page - state.skip);
     let (whole_width, whole_height) = (width + 2 * BORDER, height + 2 * BORDER);
     let inches = |units: u32| f64::from(units) / 3_600.0;
     let (across, along) = (inches(whole_width), inches(whole_height));
     writeln!(svg, r#"<?xml version="1.0" encoding="UTF-8"?>"#)?;
-    writeln!(svg, "<!-- {MARK} -->")?;
+    writeln!(svg, "<!-- {mark} -->")?;
     write!(
         svg,
         r#"<svg xmlns="http://www.w3.org/2000/svg" width="{across}in" height="{along}in""#
