@@ -1,11 +1,13 @@
 /*
  * A box that runs on: reads ESC/P from standard input, in pieces as they come, and at each line fed tells what stands now
- * in each of a card's seven slots, and what was passed over since the last time. Input may go on for ever: the memory is
- * all there from the beginning.
+ * in each of a card's seven slots, and what was passed over since the last time. Where letters came since, a page that
+ * ends is told too, as it was, before the next one, on which nothing stands. Input may go on for ever: the memory is all
+ * there from the beginning.
  *
  *     box [DOTS [WIDTH]] < INPUT     at 300 dots to the inch, or 203, on paper of this width in 1/3600 inch
  *
- * It knows its card: a heading in the first row, and words that begin at their slot's tab stop and end before the next.
+ * It knows its card: a heading in the first row, whose number in a slot does not count as a word there, and words that
+ * begin at their slot's tab stop and end before the next.
  * Where longer ones may come, a box must look at what stands beside a slot too, as the program card does.
  */
 #define _POSIX_C_SOURCE 200809L /* for read */
@@ -93,6 +95,12 @@ static void shield(list *list)
     list->shielded = list->length;
 }
 
+/* Whether a record turns the page, or sets a new top: another sheet. */
+static int ends_page(const escp_record *record)
+{
+    return record->mark == ESCP_LN && record->pages > 0;
+}
+
 /* What a record, of these bytes, does to the list. */
 static void take_record(list *list, const escp_record *record, const uint8_t *bytes)
 {
@@ -101,8 +109,7 @@ static void take_record(list *list, const escp_record *record, const uint8_t *by
         add_letter(list, bytes);
         break;
     case ESCP_LN:
-        /* A page turned, or a new top: another sheet. */
-        if (record->pages > 0)
+        if (ends_page(record))
             list->length = list->shielded = 0;
         shield(list);
         break;
@@ -158,11 +165,17 @@ static char sign_of(uint8_t byte)
     return byte >= 0x20 && byte <= 0x7E ? (char)byte : '?';
 }
 
+/* Whether a word is the number of its slot, counted from 1, in the heading. */
+static int is_number(const char *word, uint16_t row, unsigned slot)
+{
+    return row == HEADING && word[0] == (char)('0' + slot) && word[1] == '\0';
+}
+
 /*
- * Tells what stands now from a column up to another, below the heading. The newest letter is the last one. The letter
- * before it is the newest to the left of it, if in the same row, and so on.
+ * Tells what stands in a slot, from a column up to another. The newest letter is the last one. The letter before it is
+ * the newest to the left of it, if in the same row, and so on.
  */
-static void tell_word(const list *list, uint32_t from, uint32_t end)
+static void tell_word(const list *list, unsigned slot, uint32_t from, uint32_t end)
 {
     char word[MOST_DOTS + 1];
     size_t at = MOST_DOTS;
@@ -170,12 +183,12 @@ static void tell_word(const list *list, uint32_t from, uint32_t end)
 
     word[at] = '\0';
     find_letter(list, from, end, &letter);
-    while (letter.mark == ESCP_TX && letter.row != HEADING && (at == MOST_DOTS || letter.row == first.row)) {
+    while (letter.mark == ESCP_TX && (at == MOST_DOTS || letter.row == first.row)) {
         first = letter;
         word[--at] = sign_of(letter.byte);
         find_letter(list, from, letter.column, &letter);
     }
-    if (at == MOST_DOTS)
+    if (at == MOST_DOTS || is_number(word + at, first.row, slot))
         puts("nothing");
     else
         printf("%s at column %u, row %u\n", word + at, (unsigned)first.column, (unsigned)first.row);
@@ -200,15 +213,15 @@ static const char *reason_of(uint8_t reason)
 }
 
 /*
- * Tells what stands in each slot, after this word of why. The driver counts slots from 1, the electricians from 0. Then
- * what was passed over since it was last told.
+ * Tells what stands in each slot by the stops and margins of a state, after this word of why. The driver counts slots
+ * from 1, the electricians from 0. Then what was passed over since it was last told.
  */
-static void tell(box *box, const char *why)
+static void tell(box *box, const escp_state *state, const char *why)
 {
-    printf("%s, row %u\n", why, (unsigned)escp_dot(box->state.down, box->state.dots_down));
+    printf("%s, row %u\n", why, (unsigned)escp_dot(state->down, state->dots_down));
     for (unsigned slot = 0; slot < SLOTS; slot++) {
         printf("slot %u (electricians: %u): ", slot + 1, slot);
-        tell_word(&box->letters, begin_of(&box->state, slot), begin_of(&box->state, slot + 1));
+        tell_word(&box->letters, slot + 1, begin_of(state, slot), begin_of(state, slot + 1));
     }
     if (box->passed.count > 0)
         printf("passed over: %lu, the first %02Xh: %s\n", box->passed.count, (unsigned)box->passed.byte,
@@ -223,8 +236,11 @@ static const char *feed_of(const escp_record *record)
     return record->pages > 0 ? "page turned" : "line fed";
 }
 
-/* Takes the records of a call: letters to the list, and at each line fed tells the slots. */
-static void take_records(box *box, const uint8_t *bytes, size_t length)
+/*
+ * Takes the records of a byte, before which the state was this one: letters to the list, and at each line fed tells the
+ * slots. A line that ends with its page, or with ESC @, which sets other stops, is told before they are gone.
+ */
+static void take_records(box *box, const escp_state *before, const uint8_t *bytes, size_t length)
 {
     for (size_t at = 0; at < length; at += ESCP_RECORD_SIZE) {
         escp_record record;
@@ -233,26 +249,27 @@ static void take_records(box *box, const uint8_t *bytes, size_t length)
             box->passed.byte = record.byte;
             box->passed.reason = record.reason;
         }
+        if (ends_page(&record) && box->letters.length > box->letters.shielded)
+            tell(box, before, "page ends");
         take_record(&box->letters, &record, bytes + at);
         if (record.mark == ESCP_LN)
-            tell(box, feed_of(&record));
+            tell(box, &box->state, feed_of(&record));
     }
 }
 
 /*
- * Reads a piece of input. The output has room for the records of one byte, so that a call ends where some were written:
- * the state is then the one in which they were, with the stops and margins in force there. What is wrong, or NULL.
+ * Reads a piece of input by a call for each byte, so that the stops and margins in force before and after it are known.
+ * What is wrong, or NULL.
  */
 static const char *take_piece(box *box, const uint8_t *input, size_t length)
 {
     const char *problem = NULL;
-    while (problem == NULL && length > 0) {
+    for (size_t at = 0; problem == NULL && at < length; at++) {
         uint8_t out[ESCP_ROOM];
         escp_counts counts;
-        problem = problem_of(escp_read(&box->state, input, length, SIZE_MAX, out, sizeof out, &counts));
-        take_records(box, out, counts.written);
-        input += counts.read;
-        length -= counts.read;
+        escp_state before = box->state;
+        problem = problem_of(escp_read(&box->state, input + at, 1, SIZE_MAX, out, sizeof out, &counts));
+        take_records(box, &before, out, counts.written);
     }
     return problem;
 }
@@ -269,7 +286,7 @@ static const char *run(box *box, int input)
         if (length < 0)
             return strerror(errno);
         if (length == 0)
-            tell(box, box->state.kind == ESCP_NOTHING ? "end of input" : "end of input, within a command");
+            tell(box, &box->state, box->state.kind == ESCP_NOTHING ? "end of input" : "end of input, within a command");
         else
             problem = take_piece(box, bytes, (size_t)length);
         if (problem == NULL && fflush(stdout) != 0)
