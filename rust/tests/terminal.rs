@@ -336,6 +336,34 @@ fn a_grid_for_the_screen() {
     assert_eq!(terminal.all(), coarse);
 }
 
+/// What was passed over is below the page, and the slots, as it comes: a file that
+/// grows has no end at which it could be told.
+#[test]
+fn passed_over_below_the_page() {
+    let mut terminal = Terminal::new(24, 80);
+    let words = ["--follow", "--slots", "0"];
+    let (mut child, mut stdin) = start(&terminal, card(&words));
+    let slot = "slot 1 (electricians: 0)  HELD";
+    for (input, lines) in [
+        ("HELD", &["HELD", slot][..]),
+        (
+            "\x01",
+            &["HELD", slot, "(passed over: 1 unlisted (first at byte 4))"],
+        ),
+        (
+            "\r\x02",
+            &["HELD", slot, "(passed over: 2 unlisted (first at byte 4))"],
+        ),
+    ] {
+        stdin.write_all(input.as_bytes()).unwrap();
+        terminal.until(&format!("{HOME}{}{BELOW}", over(lines)));
+    }
+    // SAFETY: the child is ours, and is not waited for yet.
+    assert_eq!(unsafe { kill(child.id() as c_int, INTERRUPT) }, 0);
+    assert_eq!(end(&mut child).signal(), Some(INTERRUPT));
+    assert_eq!(terminal.all(), "");
+}
+
 #[test]
 fn ended_by_ctrl_c() {
     let mut terminal = Terminal::new(24, 80);

@@ -243,7 +243,7 @@ impl Screen {
     }
 
     /// The lines of a frame: the present page, or the last one if nothing is on
-    /// it, and the slots.
+    /// it, the slots, and what was passed over, since Ctrl-C may be the end.
     fn frame(&self, reader: &Reader) -> String {
         let (page, state) = (reader.page(), reader.state());
         let mut lines = String::new();
@@ -260,6 +260,9 @@ impl Screen {
             if !answers.in_step {
                 lines += &format!("({})\n", slots::OUT_OF_STEP);
             }
+        }
+        if let Some(words) = reader.passed().words() {
+            lines += &format!("({words})\n");
         }
         lines
     }

@@ -41,8 +41,8 @@ before the slot or runs past it is whole, and marked; so is all that may be anot
 slot's, such as text that does not begin at the slot's first column.
 A serial line is set raw before it is read: stty -F DEVICE 9600 raw -echo
 A FILE of - is standard input; after -- every word is a FILE.
-What was passed over is told in a line on standard error, with the place of the first
-byte, counted from 0.
+What was passed over is told in a line on standard error, with --follow also below the
+page, with the place of the first byte, counted from 0.
 Exit status: 0; 1 where reading or writing failed, or by --strict; 2 for bad usage.
 ";
 
