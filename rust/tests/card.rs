@@ -597,6 +597,54 @@ fn a_file_that_grows() {
     child.wait().unwrap();
 }
 
+/// A file that becomes shorter is another: it is read from its beginning, and nothing
+/// of the old one stays, also where it is standard input.
+#[test]
+fn a_file_that_is_truncated() {
+    let folder = Folder::new("card-truncated");
+    let name = folder.0.join("file");
+    for standard in [false, true] {
+        // A wide letter, a page turned, and an escape that is cut off.
+        fs::write(&name, b"FIRST\x0C\x1BW\x01OLD\x01\x1B").unwrap();
+        let word = if standard {
+            "-"
+        } else {
+            name.to_str().unwrap()
+        };
+        let mut command = card(&["--follow", word]);
+        command.stdin(fs::File::open(&name).unwrap());
+        command.stdout(Stdio::piped()).stderr(Stdio::piped());
+        let mut child = command.spawn().unwrap();
+        let _limit = Limit::new(&child);
+        let mut out = BufReader::new(child.stdout.take().unwrap());
+        let mut frame = || {
+            let mut frame = Vec::new();
+            out.read_until(b'\n', &mut frame).unwrap();
+            while !frame.ends_with(b"\x0C\n") {
+                assert!(out.read_until(b'\n', &mut frame).unwrap() > 0);
+            }
+            String::from_utf8(frame).unwrap()
+        };
+        let mut until = |words: &str| while frame() != words {};
+        until("O L D\n(passed over: 1 unlisted (first at byte 12))\n\x0C\n");
+        fs::write(&name, b"").unwrap();
+        until("\x0C\n");
+        for (piece, words) in [("E", "E\n\x0C\n"), ("NEW", "ENEW\n\x0C\n")] {
+            let mut file = fs::OpenOptions::new().append(true).open(&name).unwrap();
+            file.write_all(piece.as_bytes()).unwrap();
+            until(words);
+        }
+        fs::write(&name, b"X").unwrap();
+        until("X\n\x0C\n");
+        child.kill().unwrap();
+        let said = child.wait_with_output().unwrap().stderr;
+        let said = String::from_utf8(said).unwrap();
+        let truncated = "card: the file was truncated, and is read from its beginning\n";
+        let passed = "card: passed over: 1 unlisted (first at byte 12)\n";
+        assert_eq!(said, format!("{passed}{truncated}{truncated}"));
+    }
+}
+
 /// The lines of the slots of which these words stand there.
 fn slot_lines(words: &[&str]) -> String {
     let line = |(number, word)| format!("slot {} (electricians: {number})  {word}\n", number + 1);

@@ -27,6 +27,9 @@ const WAITING: usize = 4;
 /// How often a window is asked for its size, and a file for more.
 const ASKED: Duration = Duration::from_millis(100);
 
+/// What is said of a file that has become shorter than what was read of it.
+const TRUNCATED: &str = "the file was truncated, and is read from its beginning";
+
 /// What is drawn.
 struct Screen {
     options: Options,
@@ -48,6 +51,8 @@ struct Screen {
 enum Sent {
     /// A capture begins.
     Start(String),
+    /// The file is shorter than it was, and is read from its beginning.
+    Truncated,
     Bytes(Vec<u8>),
     Failed(Failure),
 }
@@ -67,9 +72,13 @@ pub fn run(options: Options) -> Outcome<()> {
     loop {
         match next(&pieces, stale, screen.terminal) {
             Next::Sent(Sent::Start(name)) => {
-                screen.tell(&reader);
-                reader = Reader::new(&screen.options.settings, care(&screen.options));
-                screen.begin(several.then(|| input::shown(&name)));
+                screen.begin(&mut reader);
+                screen.name = several.then(|| input::shown(&name));
+            }
+            Next::Sent(Sent::Truncated) => {
+                screen.begin(&mut reader);
+                complain(TRUNCATED);
+                stale = stale.or(Some(screen.drawn));
             }
             Next::Sent(Sent::Bytes(piece)) => {
                 reader.read(&piece, &mut |page, state| screen.turn(page, state))?;
@@ -131,10 +140,14 @@ fn send(mut input: Input, pieces: &SyncSender<Sent>) -> Option<()> {
     pieces.send(Sent::Start(input.name.clone())).ok()?;
     loop {
         let sent = match input.read(&mut room) {
-            Ok(0) if input.may_grow => {
-                thread::sleep(ASKED);
-                continue;
-            }
+            Ok(0) if input.may_grow => match input.is_truncated() {
+                Ok(true) => Sent::Truncated,
+                Ok(false) => {
+                    thread::sleep(ASKED);
+                    continue;
+                }
+                Err(failure) => Sent::Failed(failure),
+            },
             Ok(0) => return Some(()),
             Ok(count) => Sent::Bytes(room[..count].to_vec()),
             Err(failure) => Sent::Failed(failure),
@@ -159,9 +172,11 @@ impl Screen {
         }
     }
 
-    /// Another capture begins.
-    fn begin(&mut self, name: Option<String>) {
-        (self.name, self.turned) = (name, None);
+    /// Another capture begins, or another file in its place.
+    fn begin(&mut self, reader: &mut Reader) {
+        self.tell(reader);
+        *reader = Reader::new(&self.options.settings, care(&self.options));
+        self.turned = None;
     }
 
     /// Tells what was passed over of a capture.

@@ -3,7 +3,7 @@
 use crate::{failed, Outcome};
 use std::ffi::{OsStr, OsString};
 use std::fs::{self, File};
-use std::io::{self, ErrorKind, Read};
+use std::io::{self, ErrorKind, Read, Seek};
 use std::os::fd::AsFd;
 
 /// The files of a capture, one after the other.
@@ -12,7 +12,7 @@ pub struct Input {
     pub name: String,
     /// Those that are not open yet, the last one first.
     files: Vec<OsString>,
-    open: Option<(String, Source)>,
+    open: Option<(String, File)>,
     /// All their bytes, if they are known.
     pub total: Option<u64>,
     /// Whether the last one is a file, which may grow.
@@ -64,6 +64,24 @@ impl Input {
             }
         }
     }
+
+    /// Where the open file has become shorter than what was read of it, goes back to
+    /// its beginning; whether it has.
+    pub fn is_truncated(&mut self) -> Outcome<bool> {
+        let Some((name, file)) = &mut self.open else {
+            return Ok(false);
+        };
+        back_if_shorter(file).map_err(|error| failed(name.as_str(), error))
+    }
+}
+
+/// Goes back to a file's beginning if it is shorter than what was read.
+fn back_if_shorter(file: &mut File) -> io::Result<bool> {
+    let shorter = file.metadata()?.len() < file.stream_position()?;
+    if shorter {
+        file.rewind()?;
+    }
+    Ok(shorter)
 }
 
 /// The name of a file.
@@ -89,24 +107,26 @@ fn name(file: &OsStr) -> String {
 
 /// The length of a file, if it is one that has a length.
 fn length(file: &OsStr) -> io::Result<Option<u64>> {
-    let about = if file == STANDARD {
-        File::from(io::stdin().as_fd().try_clone_to_owned()?).metadata()?
-    } else {
-        fs::metadata(file)?
+    let about = match file == STANDARD {
+        true => standard()?.metadata()?,
+        false => fs::metadata(file)?,
     };
     Ok(about.is_file().then_some(about.len()))
 }
 
-/// Where bytes come from.
-type Source = Box<dyn Read + Send>;
+/// Standard input as a file.
+fn standard() -> io::Result<File> {
+    Ok(io::stdin().as_fd().try_clone_to_owned()?.into())
+}
 
-fn open(file: &OsStr) -> Outcome<(String, Source)> {
+fn open(file: &OsStr) -> Outcome<(String, File)> {
     let name = name(file);
-    if file == STANDARD {
-        return Ok((name, Box::new(io::stdin())));
-    }
-    match File::open(file) {
-        Ok(file) => Ok((name, Box::new(file))),
+    let opened = match file == STANDARD {
+        true => standard(),
+        false => File::open(file),
+    };
+    match opened {
+        Ok(file) => Ok((name, file)),
         Err(error) => Err(failed(name, error)),
     }
 }
