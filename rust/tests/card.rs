@@ -1287,6 +1287,19 @@ fn all_pages_in_a_pdf() {
     assert!(table.contains(&format!("/Size {}/", count + 1)));
 }
 
+/// A PDF of nothing has an empty page, since viewers refuse one without any.
+#[test]
+fn nothing_in_a_pdf() {
+    for input in [&b""[..], b"\x0C\x0C"] {
+        let pdf = run(&["--pdf", "-", "--width=7200"], input).stdout;
+        let text = String::from_utf8_lossy(&pdf);
+        assert!(text.contains("/MediaBox[0 0 144 792]"), "{text}");
+        assert!(text.contains("/Count 1>>"), "{text}");
+    }
+    let pdf = run(&["--pdf", "-"], b"\x0C\x0CA").stdout;
+    assert!(String::from_utf8_lossy(&pdf).contains("/Count 1>>"));
+}
+
 /// Where poppler is there, it finds the words of a PDF at their places.
 #[test]
 fn a_pdf_as_others_read_it() {

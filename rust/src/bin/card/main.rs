@@ -26,7 +26,7 @@ mod terminal;
 mod text;
 
 use files::Pictures;
-use ierbulosc::State;
+use ierbulosc::{Settings, State};
 use input::Input;
 use listing::Form;
 use options::{choice, Choice, Kind, Options, Slots, HELP};
@@ -147,10 +147,11 @@ impl Drawing {
         }
     }
 
-    fn finish(self) -> Outcome<()> {
+    /// Ends the pictures, which were drawn with these settings.
+    fn finish(self, settings: &Settings) -> Outcome<()> {
         match self {
             Drawing::Svg(files) | Drawing::Png(files) => files.finish(),
-            Drawing::Pdf(pdf) => pdf.finish(),
+            Drawing::Pdf(pdf) => pdf.finish(settings),
         }
     }
 }
@@ -324,7 +325,7 @@ fn run(options: Options) -> Outcome<()> {
         done.and(written)?;
     }
     if let Some(drawing) = shown.drawing.take() {
-        drawing.finish()?;
+        drawing.finish(&shown.options.settings)?;
     }
     shown.close()
 }

@@ -4,11 +4,12 @@
 //! A point is 50 units.
 
 use crate::files::{Part, MARK};
+use crate::layout::Layout;
 use crate::letters::{BOLD, DOUBLE_STRIKE, ITALIC, OUTLINE, SHADOW};
 use crate::page::{Page, Place};
 use crate::runs::{runs, Run};
 use crate::{unwritten, Outcome};
-use ierbulosc::{Record, State};
+use ierbulosc::{Record, Settings, State};
 use std::ffi::OsStr;
 use std::fmt::Write as _;
 use std::io::{self, Write};
@@ -112,8 +113,18 @@ impl Pdf {
         )
     }
 
-    /// Writes what must come last, and gives the file its name.
-    pub fn finish(mut self) -> Outcome<()> {
+    /// Adds an empty page.
+    fn empty_page(&mut self, settings: &Settings) -> Outcome<()> {
+        let state = State::start(settings).1;
+        self.page(&Page::new(1, Layout::of(&state)), &state)
+    }
+
+    /// Writes what must come last, and gives the file its name. Viewers refuse a PDF
+    /// without a page.
+    pub fn finish(mut self, settings: &Settings) -> Outcome<()> {
+        if self.pages.is_empty() {
+            self.empty_page(settings)?;
+        }
         let kids: String = self
             .pages
             .iter()
