@@ -1596,9 +1596,14 @@ fn reading_and_writing_failed() {
     let folder = Folder::new("card-failed");
     let name = folder.0.to_str().unwrap();
     let missing = format!("{name}/missing");
-    let output = run(&["-", &missing], b"A");
-    assert_eq!(output.stdout, b"");
+    let output = run(&["-", &missing, "/dev/null"], b"A");
+    assert_eq!(output.stdout, b"==== standard input ====\nA\n");
     failed(output, &missing);
+    for words in [["--follow", "-"], ["--join", "-"], ["--slots", "0"]] {
+        let output = run(&[&words[..], &[&missing]].concat(), b"A");
+        assert_eq!(output.stdout, b"");
+        failed(output, &missing);
+    }
     failed(run(&[name], b""), name);
     failed(run(&["no\nsuch"], b""), "no\\nsuch");
     failed(run(&[""], b""), "''");

@@ -60,7 +60,8 @@ enum Sent {
 /// Reads all, and draws what is there whenever something has come, or the window
 /// has another size.
 pub fn run(options: Options) -> Outcome<()> {
-    let inputs = inputs(&options)?;
+    let (inputs, all) = inputs(&options);
+    all?;
     let several = inputs.len() > 1;
     let (sender, pieces) = sync_channel(WAITING);
     thread::spawn(move || send_all(inputs, &sender));

@@ -305,15 +305,23 @@ fn care(options: &Options) -> Care {
     }
 }
 
-/// The captures that are asked for, each of which must be there.
-fn inputs(options: &Options) -> Outcome<Vec<Input>> {
-    options.captures().into_iter().map(Input::new).collect()
+/// The captures that are asked for, up to the first that is not there, and whether all
+/// are.
+fn inputs(options: &Options) -> (Vec<Input>, Outcome<()>) {
+    let mut inputs = Vec::new();
+    for capture in options.captures() {
+        match Input::new(capture) {
+            Ok(input) => inputs.push(input),
+            Err(failure) => return (inputs, Err(failure)),
+        }
+    }
+    (inputs, Ok(()))
 }
 
 /// Reads all, and shows what is asked for.
 fn run(options: Options) -> Outcome<()> {
-    let inputs = inputs(&options)?;
-    let several = inputs.len() > 1;
+    let (inputs, all) = inputs(&options);
+    let several = options.captures().len() > 1;
     let totals = inputs.iter().map(|input| input.total);
     let mut shown = Shown::new(options, totals.sum());
     for mut input in inputs {
@@ -324,6 +332,7 @@ fn run(options: Options) -> Outcome<()> {
         shown.progress.hide();
         done.and(written)?;
     }
+    all?;
     if let Some(drawing) = shown.drawing.take() {
         drawing.finish(&shown.options.settings)?;
     }
