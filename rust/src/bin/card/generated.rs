@@ -2,7 +2,7 @@
 //! or is marked. What was printed where is known from the generator, which
 //! reckons places by itself, and not from the library.
 //!
-//! A longer run: `CARDS=100000 SEED=7 cargo test --release --offline -p ierbulosc
+//! A longer run: `CARDS=1000000 SEED=7 cargo test --release --offline -p ierbulosc
 //! --bin card generated -- --nocapture`.
 
 use crate::options::{choice, Choice, Named, Slots};
@@ -716,7 +716,7 @@ fn generated() {
             .ok()
             .and_then(|word| word.parse::<u64>().ok())
     };
-    let cards = number("CARDS").unwrap_or(20_000);
+    let cards = number("CARDS").unwrap_or(100_000);
     let mut chance = Chance(
         number("SEED")
             .unwrap_or(1)
