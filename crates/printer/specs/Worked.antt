@@ -128,7 +128,7 @@ withPart p country n = withSettings p (withCountry (p .settings) n)
 withPart p outline n = withSettings p (withOutline (p .settings) n)
 withPart p chosen n = let t = p .stops in withStops p (stopsOf (t .columns) (choosing (t .channels) n) (t .gathered))
 
-abbrev held : (count : ℕ) → List ℕ → TabStops
+abbrev pub held : (count : ℕ) → List ℕ → TabStops
 held count l = record { stops = l ++ replicate (stopRoom - length l) 0; count = count }
 
 -- a channel's count, and its first places
@@ -136,7 +136,7 @@ abbrev withPlaces : Channels → (m count : ℕ) → List ℕ → Channels
 withPlaces c m count l =
     record { stops = paste (c .stops) (16 * m) l (length l); counts = set (c .counts) m count; chosen = c .chosen }
 
-abbrev withChange : Printer → Change → Printer
+abbrev pub withChange : Printer → Change → Printer
 withChange p (sets part n) = withPart p part n
 withChange p (columns n l) = let t = p .stops in withStops p (stopsOf (held n l) (t .channels) (t .gathered))
 withChange p (channel m n l) = let t = p .stops in withStops p (stopsOf (t .columns) (withPlaces (t .channels) m n l) (t .gathered))
