@@ -6,6 +6,7 @@
 //! generated letters and read back.
 
 pub mod arbitrary;
+pub mod bounds;
 pub mod calls;
 pub mod cards;
 pub mod fields;

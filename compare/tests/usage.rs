@@ -14,6 +14,10 @@ fn speed(arguments: &[&str]) -> Output {
     run(env!("CARGO_BIN_EXE_speed"), arguments)
 }
 
+fn calls(arguments: &[&str]) -> Output {
+    run(env!("CARGO_BIN_EXE_calls"), arguments)
+}
+
 /// One line on standard error, nothing on standard output, exit status 2.
 fn is_refused(output: &Output) {
     let line = String::from_utf8_lossy(&output.stderr);
@@ -52,6 +56,35 @@ fn bad_usage() {
     ] {
         is_refused(&speed(arguments));
     }
+    for arguments in [
+        &[][..],
+        &["--lists", "3", "--seed", "1", "one"],
+        &["--lists", "few", "--seed", "1", "one", "two"],
+        &["--lists", "3", "--seed", "-1", "one", "two"],
+        &["--input", "noise", "one"],
+        &["--phrases"],
+        &["--help", "me"],
+    ] {
+        is_refused(&calls(arguments));
+    }
+}
+
+/// Calls as boards/calls.c is given them, a line of what came back for each.
+#[test]
+fn calls_with_what_came_back() {
+    let files = ["/calls", "/came"].map(|name| env!("CARGO_TARGET_TMPDIR").to_string() + name);
+    let output = calls(&["--lists", "5", "--seed", "2", &files[0], &files[1]]);
+    assert_eq!(output.status.code(), Some(0));
+    assert!(output.stdout.is_empty() && output.stderr.is_empty());
+    let [calls, came] = files.map(|file| std::fs::read_to_string(file).unwrap());
+    assert_eq!(calls.lines().count(), came.lines().count());
+    let count = |word: &str| calls.lines().filter(|line| line.starts_with(word)).count();
+    let lists = count("list");
+    assert_eq!(lists, count("state ") + 5);
+    assert!(count("state ") > 100 && count("start ") >= 5 && count("read ") > 2 * 100);
+    assert_eq!((count("slot "), count("write ")), (5, 5));
+    assert!(came.lines().any(|line| line.starts_with("0 ")));
+    assert!(came.lines().any(|line| line == "4 0 0 -"));
 }
 
 #[test]
@@ -130,7 +163,8 @@ fn slots_and_cards_are_measured() {
 
 #[test]
 fn help() {
-    for output in [compare(&["--help"]), speed(&["--help"])] {
+    let help = &["--help"];
+    for output in [compare(help), speed(help), calls(help)] {
         assert_eq!(output.status.code(), Some(0));
         assert!(output.stdout.len() > 100);
         assert!(output.stderr.is_empty());
