@@ -6,6 +6,10 @@
  * crates below it. A test (rust/tests/header.rs) holds the declarations here against the exported functions and the
  * registers' layout in Rattle; that the words here say the same as the proofs is for their reader to compare.
  *
+ * For AArch64 and for RISC-V of 64 bits `boards/library` compiles the same proved code, and tests run it under emulation.
+ * The proofs are of the code, with a size_t of 64 bits; no proof covers what a compiler makes of it, for any processor.
+ * Processors of other sizes, or with the high byte first, are not for it.
+ *
  *     escp_settings settings = {300, 0, 28800};
  *     escp_state state;
  *     escp_counts counts;
@@ -37,15 +41,15 @@
 #define ESCP_VERSION_NUMBER 100
 
 /*
- * What a call needs. Of other libraries memcpy and memset, and nothing else. At most 512 bytes of stack below its
- * caller, as measured (docs/SPEED.md has the figures). No heap, no file, no clock, no lock; no memory of its own that
- * is written.
+ * What a call needs. Of other libraries memcpy and memset, and nothing else, but where a processor has no multiplier or
+ * divider, the compiler's own. At most 512 bytes of stack below its caller on x86-64, and 1,024 on the other processors, as
+ * measured (docs/SPEED.md has the figures). No heap, no file, no clock, no lock; no memory of its own that is written.
  *
  * Threads: calls may run at the same time, as long as none writes what another reads or writes: a state is for one call
  * at a time. Signal handlers may make calls, with a state and an output that no interrupted call works on; a call that
  * is interrupted goes on as if nothing had been. On a board without an operating system an interrupt must leave the
- * registers that it uses as they were, those of SSE among them, and the 128 bytes below the stack pointer, as the
- * calling convention of x86-64 Linux has it.
+ * registers that it uses as they were, those of SSE among them (on AArch64 those of SIMD), and on x86-64 the 128 bytes
+ * below the stack pointer, as the calling convention of Linux has it.
  *
  * Time: a reading call takes time with the bytes that it reads, which the allowance bounds, escp_slot with the records
  * from the newest back to the one found, or to where the page begins, and escp_write with the letters.

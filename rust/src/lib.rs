@@ -6,6 +6,12 @@
 //! allocates nothing and always returns; all it knows is in [`State`]. The cover
 //! needs no standard library either.
 //!
+//! The library is for x86-64 Linux; for AArch64 and for RISC-V of 64 bits
+//! boards/library compiles the same proved code, to a folder that
+//! `IERBULOSC_LIB` may name. The proofs are of the code, with a `usize` of 64
+//! bits, and what a compiler makes of it no proof covers, for any processor.
+//! Processors of other sizes, or with the high byte first, are not for it.
+//!
 //! ```
 //! use ierbulosc::{records, Answer, Record, Settings, State, ROOM};
 //!
