@@ -72,7 +72,7 @@ enum {
 enum {
     ESCP_RECORD_SIZE = 14,            /* the bytes of a record */
     ESCP_ROOM = 2 * ESCP_RECORD_SIZE, /* must be left in the output to read a byte, which writes at most 2 records */
-    ESCP_REGISTERS = 243,             /* the numbers of a state */
+    ESCP_REGISTERS = 244,             /* the numbers of a state */
     ESCP_TAB_STOPS = 32,              /* the room of a list of tab stops */
     ESCP_COLUMNS = 32,                /* the most horizontal tab stops */
     ESCP_LINES = 16,                  /* the most vertical tab stops of a channel */
@@ -196,6 +196,7 @@ typedef struct escp_state {
     uint32_t style;        /* the style bits of a TX */
     uint32_t advance;      /* the width of a letter */
     uint32_t column_width; /* the width that stops and margins count in: 360 if proportional, else the advance */
+    uint32_t advance_dots; /* the advance in dots across: the whole dots, and 65,536 x what is over, in 1/3600 dot */
 
     /*
      * Tab stops. The gathered ones, horizontal of ESC D or vertical of ESC B and ESC b, are looked at only while such a list

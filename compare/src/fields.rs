@@ -23,7 +23,13 @@ impl Name {
 
     /// Whether it follows from other registers.
     pub fn is_derived(&self) -> bool {
-        let derived = ["dots_down", "style", "advance", "column_width"];
+        let derived = [
+            "dots_down",
+            "style",
+            "advance",
+            "column_width",
+            "advance_dots",
+        ];
         derived.contains(&self.path)
     }
 }
@@ -64,7 +70,7 @@ pub fn fields(state: &mut State) -> Vec<Field<'_>> {
         pitch spacing wide wide_once reduced proportional
         bold double_strike italic underline superscript subscript
         font country outline double_height italic_table download
-        draft upper_prints style advance column_width chosen
+        draft upper_prints style advance column_width advance_dots chosen
     }
     all
 }

@@ -187,6 +187,7 @@ pub fn follows(registers: &Registers) -> Registers {
         } else {
             advance
         },
+        advance_dots: advance_dots(registers, advance),
         ..*registers
     }
 }
@@ -233,6 +234,13 @@ fn advance(r: &Registers) -> u32 {
         true => single.wrapping_mul(2),
         false => single,
     }
+}
+
+/// The advance in dots across: the whole dots, and 65,536 times what is over.
+fn advance_dots(r: &Registers, advance: u32) -> u32 {
+    let dots = if r.dots_across == 300 { 300 } else { 203 };
+    let parts = advance.wrapping_mul(dots);
+    (parts % 3_600 * 65_536).wrapping_add(parts / 3_600)
 }
 
 fn list(list: &Stops) -> Option<RegisterStops> {

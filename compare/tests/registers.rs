@@ -84,7 +84,7 @@ fn numbers_that_stand_for_no_plain_state() {
         "image_byte",
         "image_columns",
     ];
-    let derived = ["dots_down", "style", "advance", "column_width"];
+    let derived = ["dots_down", "style", "advance", "column_width", "advance_dots"];
     assert_eq!(flags.len(), 16 + 6, "{flags:?}");
     for name in flags
         .iter()
@@ -329,18 +329,18 @@ fn the_registers_of_channels() {
     assert_eq!(waiting(b"\x1Bb\x08"), [7, 0, 0, 0, 0, 0]);
     assert_eq!(waiting(b"\x1Bb\x08\x09"), [7, 0, 9, 0, 0, 0]);
     assert_eq!(waiting(b"\x1Bb\x08\x09\x09"), [0; 6]);
-    assert_eq!(after(b"\x1B/\x07").registers()[40], 7);
+    assert_eq!(after(b"\x1B/\x07").registers()[41], 7);
     for channel in 0..8 {
         let numbers = after(&[0x1B, b'b', channel, 2, 5, 0]).registers();
         let mut expected = power_on().registers();
         let channel = usize::from(channel);
-        expected[107 + channel] = 3;
-        expected[115 + 16 * channel] = 1_200;
-        expected[116 + 16 * channel] = 3_000;
+        expected[108 + channel] = 3;
+        expected[116 + 16 * channel] = 1_200;
+        expected[117 + 16 * channel] = 3_000;
         assert_eq!(numbers, expected);
         let numbers = after(&[0x1B, b'b', channel as u8, 0]).registers();
         let mut expected = power_on().registers();
-        expected[107 + channel] = 1;
+        expected[108 + channel] = 1;
         assert_eq!(numbers, expected);
     }
 }

@@ -4,7 +4,7 @@
 use core::mem::transmute;
 
 /// The numbers of a state.
-pub const REGISTERS: usize = 243;
+pub const REGISTERS: usize = 244;
 /// The room of a list of tab stops.
 pub const TAB_STOPS: usize = 32;
 /// The most horizontal tab stops.
@@ -176,6 +176,9 @@ pub struct State {
     /// The width that stops and margins count in: 360 if proportional, else
     /// the advance; it must agree with the settings above.
     pub column_width: u32,
+    /// The advance in dots across: the whole dots, and 65,536 times what is
+    /// over, in 1/3600 dot; it must agree with the settings above.
+    pub advance_dots: u32,
     /// The channel that VT uses, 0 to 7.
     pub chosen: u32,
     /// Horizontal stops in force.

@@ -66,8 +66,8 @@ fn power_on_by_numbers() {
     let mut expected = [0; REGISTERS];
     expected[9..17].copy_from_slice(&[28_800, 39_600, 0, 600, 300, 300, 0, 28_800]);
     expected[17] = 10;
-    expected[36..40].copy_from_slice(&[1, 0, 360, 360]);
-    expected[41..51].copy_from_slice(&[9, 8, 16, 24, 32, 40, 48, 56, 64, 72]);
+    expected[36..41].copy_from_slice(&[1, 0, 360, 360, 30]);
+    expected[42..52].copy_from_slice(&[9, 8, 16, 24, 32, 40, 48, 56, 64, 72]);
     assert_eq!(state.registers(), expected);
     assert_eq!(State::from_registers(expected), state);
     assert_eq!(state.columns.held(), [8, 16, 24, 32, 40, 48, 56, 64, 72]);
@@ -160,7 +160,7 @@ fn answers_in_order() {
 /// Each register in turn with a number that no state has there.
 #[test]
 fn a_refused_state_stays() {
-    let unseen = |at: usize| (51..107).contains(&at) || (115..REGISTERS).contains(&at);
+    let unseen = |at: usize| (52..108).contains(&at) || (116..REGISTERS).contains(&at);
     for at in (0..REGISTERS).filter(|&at| !unseen(at)) {
         let mut registers = power_on().registers();
         registers[at] += 1 << 31;

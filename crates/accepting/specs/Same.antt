@@ -1,6 +1,6 @@
 -- Whether registers are those of the printer that they are read as: register by register, a group at a time. The place, the
 -- lengths and the stops are so whatever they are.
-use Prim.Native.Nat.{ℕ, _%_}
+use Prim.Native.Nat.{ℕ, _*_, _%_}
 use mathlib.Core.Bool.{Bool, _&&_}
 use mathlib.Core.List.{List}
 use lib.Dec.{eqb}
@@ -8,8 +8,9 @@ use lib.ListN.{getD}
 use Rattle.printer.specs.Units.{perInchAcross, perInchDown}
 use Rattle.printer.specs.Records.{styleOf}
 use Rattle.printer.specs.Widths.{advance, columnWidth}
+use Rattle.measures.specs.Exact.{packed}
 use Rattle.registers.specs.declared.pending.Pending.{Pending}
-use Rattle.registers.specs.Register.{kindAt, commandAt, argumentAt, imageModeAt, imageByteAt, imageColumnsAt, dotsAcrossAt, dotsDownAt, autoFeedAt, pitchAt, spacingAt, wideAt, wideOnceAt, reducedAt, proportionalAt, boldAt, doubleStrikeAt, italicAt, underlineAt, superscriptAt, subscriptAt, fontAt, countryAt, outlineAt, doubleHeightAt, italicTableAt, downloadAt, draftAt, upperPrintsAt, styleAt, advanceAt, columnWidthAt}
+use Rattle.registers.specs.Register.{kindAt, commandAt, argumentAt, imageModeAt, imageByteAt, imageColumnsAt, dotsAcrossAt, dotsDownAt, autoFeedAt, pitchAt, spacingAt, wideAt, wideOnceAt, reducedAt, proportionalAt, boldAt, doubleStrikeAt, italicAt, underlineAt, superscriptAt, subscriptAt, fontAt, countryAt, outlineAt, doubleHeightAt, italicTableAt, downloadAt, draftAt, upperPrintsAt, styleAt, advanceAt, columnWidthAt, advanceDotsAt}
 use Rattle.registers.specs.Layout.{flag, pitchNumber}
 use Rattle.registers.specs.Groups.{isSet, resolutionOf, pitchOf, widthIn, settingsIn}
 
@@ -54,7 +55,8 @@ samePrinting m = isFlag (getD m draftAt 0) && isFlag (getD m upperPrintsAt 0)
 abbrev pub sameDerived : List ℕ → Bool
 sameDerived m =
     eqb (getD m styleAt 0) (styleOf (settingsIn m))
-    && (eqb (getD m advanceAt 0) (advance (widthIn m)) && eqb (getD m columnWidthAt 0) (columnWidth (widthIn m)))
+    && (eqb (getD m advanceAt 0) (advance (widthIn m)) && (eqb (getD m columnWidthAt 0) (columnWidth (widthIn m))
+    && eqb (getD m advanceDotsAt 0) (packed (advance (widthIn m) * perInchAcross (resolutionOf (getD m dotsAcrossAt 0))))))
 
 -- all of them, with the numbers of what is waited for
 unfoldable pub sameRegisters : List ℕ → Pending → Bool

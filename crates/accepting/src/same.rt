@@ -1,7 +1,10 @@
 // Whether registers are those of the printer that they are read as.
+use measures::rounding;
 use measures::styles::style_of;
 use measures::widths;
+use printer::units::Units;
 use registers::ADVANCE;
+use registers::ADVANCE_DOTS;
 use registers::ARGUMENT;
 use registers::AUTO_FEED;
 use registers::BOLD;
@@ -120,7 +123,9 @@ fn same_derived(m: &[u32; COUNT]) -> bool
     let style = style_of(s) as u32;
     let advance = widths::advance(w).0;
     let column = widths::column_width(w).0;
-    (m[STYLE] == style) & ((m[ADVANCE] == advance) & (m[COLUMN_WIDTH] == column))
+    let resolution = resolution_of(m[DOTS_ACROSS]);
+    let dots = widths::is_advance_dots(m[ADVANCE_DOTS], resolution, w);
+    (m[STYLE] == style) & ((m[ADVANCE] == advance) & ((m[COLUMN_WIDTH] == column) & dots))
 }
 
 pub(crate) fn same_registers(m: &[u32; COUNT], v: Pending) -> bool

@@ -1,7 +1,6 @@
 pub mod Writes
 pub mod Setting
 pub mod Outcomes
-pub mod Digits
 pub mod SeriesLoop
 pub mod Runs
 pub mod Following

@@ -3,7 +3,7 @@ use Prim.Native.Nat.{ℕ, zero, suc, _+_, _*_, _-_, _/_, _%_, _≤_, _<_}
 use mathlib.Core.Path.{_≡_, refl, ap, _∙_}
 use mathlib.Core.Bool.{Bool, true, false}
 use mathlib.Core.List.{List, [], _∷_, _++_}
-use native.Mathlib.Nat.{zero-mul, suc-mul, add-zero, sub-zero, mul-one, add-mul, mul-le-mul-right, le-mul-of-pos-right, le-of-mul-le-mul-right, mod-eq-of-lt}
+use native.Mathlib.Nat.{zero-mul, suc-mul, add-zero, sub-zero, mul-one, add-mul, mul-le-mul-right, le-mul-of-pos-right, le-of-mul-le-mul-right}
 use native.Mathlib.Numerals.{add-one}
 use native.Mathlib.Omega.{arith}
 use lib.Dec.{eqb}
@@ -16,11 +16,13 @@ use Rattle.printer.specs.declared.records.Record.{Record}
 use Rattle.printer.specs.Units.{rounded}
 use Rattle.printer.proofs.Choices.{each-append}
 use Rattle.printer.proofs.CodeLaws.{product}
+use Rattle.measures.specs.declared.rounding.Exact.{Exact}
+use Rattle.measures.specs.Exact.{packed, carried}
+use Rattle.measures.proofs.Exact.{packed-dots, packed-sum}
 use Rattle.registers.specs.Register.{acrossAt}
 use Rattle.framing.specs.Letters.{printsFrom}
 use Rattle.interpreter.specs.Output.{Written}
-use Rattle.interpreter.specs.Series.{ofPart, likeAt, placedAll, AllPrint, Reached, OnLine, spotAfter, blankOf}
-use Rattle.interpreter.specs.declared.series.Blank.{Blank}
+use Rattle.interpreter.specs.Series.{ofPart, likeAt, placedAll, AllPrint, Reached, OnLine, Walks, spotAfter}
 use Rattle.interpreter.specs.declared.series.Spot.{Spot}
 use Rattle.interpreter.specs.Taking.{Fits}
 use Rattle.interpreter.proofs.Writes.{none, more, same-length}
@@ -111,18 +113,9 @@ placed-more v d step bytes (a ∷ l) x k done part b h s =
 
 -- The loop
 
--- the numbers that a record's fields and the bytes of a column bound
-pub record Narrow (v : Record) (bytes : ℕ) : Type 0 where
-  pub fonts : v .font + bytes ≤ 256
-  pub style : v .style ≤ 65535
-  pub country : v .country ≤ 255
-
--- what the loop begins with: a record but for its column and its byte, a step in parts of a dot, an exact place, and a byte of a column
-pub record Begun (v : Record) (d x step bytes k most : ℕ) (blank : Blank) (by : ℕ) (s : Spot) : Type 0 where
-  pub like : blank ≡ blankOf v
-  pub narrow : Narrow v bytes
-  pub each : by ≡ step * d % 4294967296
-  pub start : s .exact .0 ≡ x * d + 1800
+-- what the loop begins with: an exact place and step, and a byte of a column
+pub record Begun (d x step bytes k most by : ℕ) (s : Spot) : Type 0 where
+  pub walks : Walks d x step (s .exact .0) by
   pub spot : (s .part ≡ k) × (s .done ≡ 0)
   pub from : (1 ≤ k) × (k ≤ bytes)
   pub moves : 0 < step
@@ -132,27 +125,27 @@ pub record Begun (v : Record) (d x step bytes k most : ℕ) (blank : Blank) (by 
 pub record SoFar (v : Record) (from d x step bytes k : ℕ) (input out₀ out : List ℕ) (s : Spot) (n at : ℕ) : Type 0 where
   pub within : n ≤ length input
   pub reached : Reached (s .done) (s .part) n bytes k
-  pub place : s .exact .0 ≡ (x + s .done * step) * d + 1800
+  pub place : s .exact .0 ≡ packed ((x + s .done * step) * d + 1800)
   pub written : at ≡ recordSize * n
   pub printed : AllPrint from (take n input)
   pub wrote : Written out₀ 0 (placedAll v d x step bytes k (take n input)) at out
 
-pub begins : {v : Record} {from d x step bytes k most : ℕ} {input out : List ℕ} {blank : Blank} {by : ℕ} {s : Spot}
-    → Begun v d x step bytes k most blank by s → SoFar v from d x step bytes k input out out s 0 0
+pub begins : {v : Record} {from d x step bytes k most : ℕ} {input out : List ℕ} {by : ℕ} {s : Spot}
+    → Begun d x step bytes k most by s → SoFar v from d x step bytes k input out out s 0 0
 unfolding placedAll
 begins {d = d} {x = x} {step = step} {bytes = bytes} {k = k} {out = out} {s = s} b =
     record {
       within = omega arith;
       reached = rw (b .spot .0, b .spot .1) (record { counted = rw zero-mul; low = b .from .0; high = b .from .1 });
-      place = b .start ∙ rw (b .spot .1, zero-mul, add-zero);
+      place = b .walks .place ∙ rw (b .spot .1, zero-mul, add-zero);
       written = omega arith;
       printed = tt;
       wrote = none out 0;
     }
 
 module _
-    {v : Record} {from d x step bytes k : ℕ} {input out₀ out : List ℕ} {blank : Blank} {by : ℕ} {s₀ s : Spot} {n at : ℕ}
-    (g : SoFar v from d x step bytes k input out₀ out s n at) (b : Begun v d x step bytes k (length input) blank by s₀)
+    {v : Record} {from d x step bytes k : ℕ} {input out₀ out : List ℕ} {by : ℕ} {s₀ s : Spot} {n at : ℕ}
+    (g : SoFar v from d x step bytes k input out₀ out s n at) (b : Begun d x step bytes k (length input) by s₀)
     (dots : d ≤ 300) (room : recordSize * length input ≤ length out₀) where
   fits : at ≤ length out₀
   fits = omega (arith, g .written, g .within)
@@ -173,8 +166,12 @@ module _
   line-so-far : x + s .done * step ≤ 28800
   line-so-far = done-within (g .reached) (shorter n (g .within)) (b .from)
 
-  pub bound : s .exact .0 ≤ 8641800
-  bound = omega (arith, on-line (s .done) line-so-far, g .place)
+  -- the place in 1/3600 dot, and its dots
+  so-far : (x + s .done * step) * d + 1800 ≤ 8641800
+  so-far = omega (arith, on-line (s .done) line-so-far)
+
+  column : s .exact .0 % 65536 ≡ rounded d (x + s .done * step)
+  column = rw (g .place) (packed-dots ((x + s .done * step) * d + 1800) (omega (arith, so-far)))
 
   -- so few columns are done
   pub few : s .done ≤ 28800
@@ -189,24 +186,24 @@ module _
     room-enough = omega (arith, long, g .written)
 
     -- the exact place after the byte
-    place-after : pick (eqb (s .part) bytes) ((s .exact .0 + by) % 4294967296) (s .exact .0)
-        ≡ (x + pick (eqb (s .part) bytes) (s .done + 1) (s .done) * step) * d + 1800
+    place-after : pick (eqb (s .part) bytes) (carried ((s .exact .0 + by) % 4294967296)) (s .exact .0)
+        ≡ packed ((x + pick (eqb (s .part) bytes) (s .done + 1) (s .done) * step) * d + 1800)
     place-after =
         let after = done-within (reached-next (g .reached)) (shorter (n + 1) (omega arith)) (b .from) in
         by-test
         (λ (t : Bool). x + pick t (s .done + 1) (s .done) * step ≤ 28800
-        → pick t ((s .exact .0 + by) % 4294967296) (s .exact .0) ≡ (x + pick t (s .done + 1) (s .done) * step) * d + 1800)
+        → pick t (carried ((s .exact .0 + by) % 4294967296)) (s .exact .0) ≡ packed ((x + pick t (s .done + 1) (s .done) * step) * d + 1800))
         (eqb (s .part) bytes)
         (λ _ h.
         let i : x + (s .done + 1) * step ≡ x + s .done * step + step = omega (arith, suc-mul (s .done) step, add-one (s .done)) in
-        let j : by ≡ step * d = b .each ∙ mod-eq-of-lt (omega (arith, product step d 28800 300 (omega (arith, i, h)) dots)) in
-        let a : s .exact .0 + by ≡ (x + (s .done + 1) * step) * d + 1800 =
-        rw i (omega (arith, j, g .place, add-mul (x + s .done * step) step d)) in
-        mod-eq-of-lt (omega (arith, a, on-line (s .done + 1) h)) ∙ a)
+        let few-parts : step * d ≤ 8640000 = product step d 28800 300 (omega (arith, i, h)) dots in
+        let a : (x + s .done * step) * d + 1800 + step * d ≡ (x + (s .done + 1) * step) * d + 1800 =
+        rw i (omega (arith, add-mul (x + s .done * step) step d)) in
+        rw (g .place, b .walks .each, packed-sum ((x + s .done * step) * d + 1800) (step * d) (omega (arith, so-far)) (omega (arith, few-parts)), a))
         (λ _ _. g .place) after
 
     pub goes-on : {r : Record} {out′ : List ℕ} → printsFrom from (getD input n 0) ≡ true
-        → r ≡ likeAt (ofPart v (s .part)) (s .exact .0 / 3600) (getD input n 0) → Written out at (r ∷ []) (at + recordSize) out′
+        → r ≡ likeAt (ofPart v (s .part)) (s .exact .0 % 65536) (getD input n 0) → Written out at (r ∷ []) (at + recordSize) out′
         → SoFar v from d x step bytes k input out₀ out′ (spotAfter s by bytes) (n + 1) (at + recordSize)
     goes-on {r} e q w =
         let c : length (take n input) ≡ n = length-take-le n input (g .within) in
@@ -217,9 +214,17 @@ module _
           written = omega (arith, g .written);
           printed = rw next (each-append (λ b. printsFrom from b ≡ true) (take n input) (getD input n 0 ∷ []) (g .printed) (e, tt));
           wrote =
-              rw (next, placed-more v d step bytes (take n input) x k (s .done) (s .part) (getD input n 0) (b .from) (rw c (g .reached)), ← g .place, ← q)
+              rw (next, placed-more v d step bytes (take n input) x k (s .done) (s .part) (getD input n 0) (b .from) (rw c (g .reached)), ← column, ← q)
               (more (g .wrote) fits w);
         }
+
+-- An exact place and an exact step, by another name of the dots of an inch
+
+pub place-known : (x : ℕ) {first : Exact} {n d : ℕ} → first ≡ record { 0 = packed (x * n + 1800) } → n ≡ d → first .0 ≡ packed (x * d + 1800)
+place-known x e f = ap (λ (p : Exact). p .0) e ∙ ap (λ (k : ℕ). packed (x * k + 1800)) f
+
+pub step-known : (step : ℕ) {by : Exact} {n d : ℕ} → by ≡ record { 0 = packed (step * n) } → n ≡ d → by .0 ≡ packed (step * d)
+step-known step e f = ap (λ (p : Exact). p .0) e ∙ ap (λ (k : ℕ). packed (step * k)) f
 
 -- A part of the input
 

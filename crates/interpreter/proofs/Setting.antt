@@ -16,7 +16,7 @@ use Rattle.printer.specs.declared.state.Printer.{Printer}
 use Rattle.registers.specs.declared.derived.Shown.{Shown}
 use Rattle.registers.specs.declared.pending.Pending.{Pending}
 use Rattle.registers.specs.Register.{pitchAt, wideOnceAt, styleAt}
-use Rattle.registers.specs.Layout.{Derived, flag, pitchNumber, derivedOf, laid, words}
+use Rattle.registers.specs.Layout.{Derived, flag, pitchNumber, advanceDots, derivedOf, laid, words}
 use Rattle.registers.specs.Groups.{isSet}
 use Rattle.registers.specs.Keeping.{shownStored, measured}
 use Rattle.registers.specs.Held.{Small, Held}
@@ -27,39 +27,39 @@ module _ {p : Printer} {v : Pending} {m : List ℕ} (h : Held p v m) (s : Settin
   abbrev changed : Printer
   changed = withParts p s (p .place) (p .stops)
 
-  abbrev laidWith : (style advance column : ℕ) → List ℕ
-  laidWith style advance column = laid v (record { style = style; advance = advance; column = column }) changed
+  -- what follows but for the style bits is that of some settings
+  abbrev laidWith : (style : ℕ) → Settings → List ℕ
+  laidWith style t = laid v (record { style = style; advance = advanceOf t; column = columnOf t; dots = advanceDots t }) changed
 
   -- stores that keep the style bits as what the settings show
   module _ (f : List ℕ → List ℕ) (kept : Styled (f m)) where
-    style-kept : (advance column : ℕ) → f (words v p) ≡ laidWith (getD (f (words v p)) styleAt 0) advance column
-        → f m ≡ laidWith (styleOf s) advance column
-    style-kept advance column alike =
+    style-kept : (t : Settings) → f (words v p) ≡ laidWith (getD (f (words v p)) styleAt 0) t → f m ≡ laidWith (styleOf s) t
+    style-kept t alike =
         let e = ap f (h .same) ∙ alike in
-        e ∙ ap (λ (style : ℕ). laidWith style advance column) (style-known v _ changed (subst Styled e kept))
+        e ∙ ap (λ (style : ℕ). laidWith style t) (style-known v _ changed (subst Styled e kept))
 
-    pub look-kept : f (words v p) ≡ laidWith (getD (f (words v p)) styleAt 0) (advanceOf s) (columnOf s) → f m ≡ words v changed
-    look-kept = style-kept (advanceOf s) (columnOf s)
+    pub look-kept : f (words v p) ≡ laidWith (getD (f (words v p)) styleAt 0) s → f m ≡ words v changed
+    look-kept = style-kept s
 
-    pub widths-kept : Small s → f (words v p) ≡ laidWith (getD (f (words v p)) styleAt 0) (advanceOf (p .settings)) (columnOf (p .settings))
+    pub widths-kept : Small s → f (words v p) ≡ laidWith (getD (f (words v p)) styleAt 0) (p .settings)
         → measured (f m) ≡ words v changed
-    widths-kept small alike = ap measured (style-kept _ _ alike) ∙ measured-laid v _ changed small
+    widths-kept small alike = ap measured (style-kept (p .settings) alike) ∙ measured-laid v _ changed small
 
   -- one setting that shows
   module _ (k : Shown) {n number : ℕ} {after : List ℕ} (e : number ≡ n) (stored : after ≡ shownStored m k number) where
-    pub look-stored : shownStored (words v p) k n ≡ laidWith (getD (shownStored (words v p) k n) styleAt 0) (advanceOf s) (columnOf s)
+    pub look-stored : shownStored (words v p) k n ≡ laidWith (getD (shownStored (words v p) k n) styleAt 0) s
         → after ≡ words v changed
     look-stored alike = stored ∙ rw e (look-kept (λ (l : List ℕ). shownStored l k n) (shown-kept (styled-held h) k n) alike)
 
     pub shown-measured : Small s
-        → shownStored (words v p) k n ≡ laidWith (getD (shownStored (words v p) k n) styleAt 0) (advanceOf (p .settings)) (columnOf (p .settings))
+        → shownStored (words v p) k n ≡ laidWith (getD (shownStored (words v p) k n) styleAt 0) (p .settings)
         → measured after ≡ words v changed
     shown-measured small alike =
         ap measured stored ∙ rw e (widths-kept (λ (l : List ℕ). shownStored l k n) (shown-kept (styled-held h) k n) small alike)
 
   -- one that does not
   pub width-stored : Small s → (register : ℕ) {n number : ℕ} {after : List ℕ} → number ≡ n → after ≡ measured (set m register number)
-      → set (words v p) register n ≡ laidWith (styleOf s) (advanceOf (p .settings)) (columnOf (p .settings)) → after ≡ words v changed
+      → set (words v p) register n ≡ laidWith (styleOf s) (p .settings) → after ≡ words v changed
   width-stored small register {n} e stored alike =
       stored ∙ rw e (ap (λ (l : List ℕ). measured (set l register n)) (h .same) ∙ ap measured alike ∙ measured-laid v _ changed small)
 

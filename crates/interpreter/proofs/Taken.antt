@@ -1,6 +1,6 @@
 -- What a turn takes: one byte, or bytes that follow each other.
 use Prim.Native.Nat.{ℕ, _+_, _*_, _-_, _≤_, _<_}
-use mathlib.Core.Path.{_≡_, refl, sym, _∙_}
+use mathlib.Core.Path.{_≡_, refl, sym, ap, _∙_}
 use mathlib.Core.Bool.{Bool, true, false}
 use mathlib.Core.List.{List, [], _∷_, append-nil}
 use native.Mathlib.Omega.{arith}
@@ -22,11 +22,13 @@ use Rattle.printer.specs.declared.state.Printer.{Printer}
 use Rattle.printer.specs.declared.units.Resolution.{Resolution}
 use Rattle.printer.proofs.Choices.{pick-elim}
 use Rattle.printer.proofs.Modes.{bytes-within}
+use Rattle.measures.specs.Exact.{packed}
 use Rattle.registers.specs.declared.pending.Pending.{Pending}
-use Rattle.registers.specs.Register.{acrossAt, rightAt, dotsAcrossAt, upperPrintsAt, advanceAt}
-use Rattle.registers.specs.Groups.{isSet}
+use Rattle.registers.specs.Register.{acrossAt, rightAt, dotsAcrossAt, upperPrintsAt, advanceAt, advanceDotsAt}
+use Rattle.registers.specs.Groups.{isSet, resolutionOf}
 use Rattle.registers.specs.Layout.{laid, words}
-use Rattle.registers.proofs.Reading.{advance-held, upper-held}
+use Rattle.registers.proofs.Laws.{resolution-back}
+use Rattle.registers.proofs.Reading.{advance-held, advance-dots-held, upper-held}
 use Rattle.interpreter.specs.declared.steps.Stepping.{Stepping}
 use Rattle.interpreter.specs.Output.{Written}
 use Rattle.interpreter.specs.Series.{placedAll, Reached, columnsWait}
@@ -101,6 +103,14 @@ module _ {p : Printer} {v : Pending} {w : Waiting} {m : List ℕ} (h : Current p
       let s = h .accepted .settings in
       let e = right-held (h .held) in
       (omega arith, rw dots-held (dots-few (p .settings .setup .resolution)))
+
+  -- the dots of an inch across are those of the resolution that they are read as
+  pub inch-known : perInchAcross (resolutionOf (getD m dotsAcrossAt 0)) ≡ getD m dotsAcrossAt 0
+  inch-known = rw dots-held (ap perInchAcross (resolution-back (p .settings .setup .resolution)))
+
+  -- the advance in dots is the exact step of the advance
+  pub advance-walks : getD m advanceDotsAt 0 ≡ packed (getD m advanceAt 0 * getD m dotsAcrossAt 0)
+  advance-walks = rw (advance-dots-held (h .held), advance-held (h .held), dots-held)
 
   pub advances : 0 < getD m advanceAt 0
   advances = rw (advance-held (h .held)) (advance-positive (p .settings .width))

@@ -1,20 +1,21 @@
 -- The records of a series of bytes on a line. They stand in columns, of one byte or more, each a step further across than the one before: a letter
 -- is a column of one byte.
-use Prim.Native.Nat.{ℕ, suc, _+_, _*_, _-_, _/_, _%_, _≤_, _<_}
+use Prim.Native.Nat.{ℕ, suc, _+_, _*_, _-_, _%_, _≤_, _<_}
 use mathlib.Core.Path.{_≡_}
 use mathlib.Core.Bool.{true}
 use mathlib.Core.List.{List, [], _∷_}
 use lib.Dec.{eqb}
 use lib.ListN.{take, getD, set}
 use Rattle.printer.specs.Tools.{pick, Each}
-use Rattle.printer.specs.Units.{rounded}
-use Rattle.printer.specs.Records.{markLow, markHigh, recordSize}
+use Rattle.printer.specs.Units.{rounded, perInchAcross}
+use Rattle.printer.specs.Records.{recordSize}
 use Rattle.printer.specs.declared.commands.ImageMode.{ImageMode}
 use Rattle.printer.specs.declared.commands.Waiting.{Waiting}
 use Rattle.printer.specs.declared.records.Record.{Record}
+use Rattle.measures.specs.Exact.{packed, carried}
 use Rattle.registers.specs.Register.{acrossAt, rightAt, dotsAcrossAt}
+use Rattle.registers.specs.Groups.{resolutionOf}
 use Rattle.framing.specs.Letters.{printsFrom}
-use Rattle.interpreter.specs.declared.series.Blank.{Blank}
 use Rattle.interpreter.specs.declared.series.Placed.{Placed}
 use Rattle.interpreter.specs.declared.series.Spot.{Spot}
 use Rattle.interpreter.specs.Output.{Written}
@@ -74,12 +75,12 @@ pub record OnLine (n bytes k across step right : ℕ) : Type 0 where
   pub enough : n ≤ whole * bytes - (k - 1)
   pub in-margin : across + whole * step ≤ right
 
--- the spot after a byte, where a step is so many parts of a dot
+-- the spot after a byte, by an exact step
 abbrev pub spotAfter : Spot → (by bytes : ℕ) → Spot
 spotAfter s by bytes =
     let last = eqb (s .part) bytes in
     record {
-      exact = record { 0 = pick last ((s .exact .0 + by) % 4294967296) (s .exact .0) };
+      exact = record { 0 = pick last (carried ((s .exact .0 + by) % 4294967296)) (s .exact .0) };
       part = pick last 1 (s .part + 1);
       done = pick last (s .done + 1) (s .done);
     }
@@ -90,6 +91,11 @@ columnsWait m k n = pick (eqb n 0) Waiting.Nothing (Waiting.ImageData m k n)
 
 -- A run of the loop
 
+-- an exact place and an exact step are those of a place and a step in units
+pub record Walks (d across step first by : ℕ) : Type 0 where
+  pub place : first ≡ packed (across * d + 1800)
+  pub each : by ≡ packed (step * d)
+
 -- what it needs of the registers, a record, the columns, and how many bytes there are at most, have input, allowance and room
 pub record Placeable (m : List ℕ) (v : Record) (step bytes k most input allowance room : ℕ) : Type 0 where
   pub moves : 0 < step
@@ -97,6 +103,7 @@ pub record Placeable (m : List ℕ) (v : Record) (step bytes k most input allowa
   pub fonts : v .font + bytes ≤ 256
   pub line : OnLine most bytes k (getD m acrossAt 0) step (getD m rightAt 0)
   pub paper : (getD m rightAt 0 ≤ 28800) × (getD m dotsAcrossAt 0 ≤ 300)
+  pub inch : perInchAcross (resolutionOf (getD m dotsAcrossAt 0)) ≡ getD m dotsAcrossAt 0
   pub read : (most ≤ input) × (most ≤ allowance)
   pub written : recordSize * most ≤ room
 
@@ -110,27 +117,3 @@ pub record Placing
   pub moved : after ≡ set m acrossAt (getD m acrossAt 0 + r .done * step)
   pub records : Written out 0 (placedAll v (getD m dotsAcrossAt 0) (getD m acrossAt 0) step bytes k (take (r .count) input)) (recordSize * r .count) wrote
   pub left : r .left + r .count ≡ allowance
-
--- Bytes
-
--- a record's bytes but for its column and its byte, as three numbers
-abbrev pub blankOf : Record → Blank
-blankOf v =
-    record {
-      head = markLow (v .mark) + 256 * markHigh (v .mark) + 4294967296 * (v .row .0 % 65536) + 72057594037927936 * v .font;
-      tail = v .style + 65536 * v .country;
-      advance = v .advance .0;
-    }
-
--- with those of a column's k-th byte
-abbrev pub headAt : Blank → (k column byte : ℕ) → ℕ
-headAt blank k column b = blank .head + 72057594037927936 * (k - 1) + 65536 * column + 281474976710656 * b
-
--- the bytes of three numbers
-abbrev pub digits : (head tail advance : ℕ) → List ℕ
-digits h t a =
-    h % 256 ∷ h / 256 % 256 ∷ h / 65536 % 256 ∷ h / 16777216 % 256 ∷
-    h / 4294967296 % 256 ∷ h / 1099511627776 % 256 ∷ h / 281474976710656 % 256 ∷ h / 72057594037927936 % 256 ∷
-    t % 256 ∷ t / 256 % 256 ∷ t / 65536 % 256 ∷ t / 16777216 % 256 ∷
-    a % 256 ∷ a / 256 % 256 ∷
-    []

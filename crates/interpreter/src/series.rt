@@ -1,9 +1,9 @@
 // A series of bytes on a line: letters, and the bytes of image columns. The bytes of a column stand at one place, and the last moves it by a step;
 // a letter is a column of one byte.
+use crate::output::write_record;
 use framing::prints;
 use measures::rounding;
 use measures::rounding::Exact;
-use printer::records::Mark;
 use printer::records::Record;
 use printer::units::Dots;
 use printer::units::Units;
@@ -11,85 +11,37 @@ use registers::ACROSS;
 use registers::COUNT;
 use registers::DOTS_ACROSS;
 use registers::RIGHT;
+use registers::groups::resolution_of;
 ghost use mathlib.Core.Path.{_≡_};
-ghost use mathlib.Core.List.{[], _∷_};
-ghost use Prim.Native.Nat.{_+_, _*_, _≤_, _<_, min};
+ghost use Prim.Native.Nat.{_+_, _*_, _-_, _≤_, _<_, min};
 ghost use lib.ListN.{length, take, getD};
-ghost use Rattle.printer.specs.Records.{markLow, markHigh, recordSize, roomForByte, encoded};
-ghost use Rattle.printer.specs.declared.records.Record.{Record};
-ghost use Rattle.registers.specs.Register.{acrossAt, rightAt};
+ghost use Rattle.printer.specs.Records.{recordSize, roomForByte};
+ghost use Rattle.printer.specs.Units.{perInchAcross};
+ghost use Rattle.measures.specs.Exact.{packed};
+ghost use Rattle.registers.specs.Register.{acrossAt, rightAt, dotsAcrossAt};
+ghost use Rattle.registers.specs.Groups.{resolutionOf};
 ghost use Rattle.interpreter.specs.Output.{Written};
-ghost use Rattle.interpreter.specs.Series.{AllPrint, OnLine, Placeable, Placing, Reached, blankOf, digits, headAt, placedAll, spotAfter};
+ghost use Rattle.interpreter.specs.Series.{AllPrint, OnLine, Placeable, Placing, Reached, Walks, likeAt, ofPart, placedAll, spotAfter};
 ghost use Rattle.interpreter.specs.Taking.{Fits};
 
-// A record's bytes but for its column and its byte, as three numbers.
-pub(crate) struct Blank {
-    head: u64,
-    tail: u32,
-    advance: u32,
-}
-
-fn mark_number(mark: Mark) -> u64
-    ensures { λ r. ⌜ (r ≡ markLow mark + 256 * markHigh mark) × (r ≤ 65535) ⌝ }
-{
-    match mark {
-        Mark::Tx => 0x5854,
-        Mark::Im => 0x4D49,
-        Mark::Ln => 0x4E4C,
-        Mark::Cl => 0x4C43,
-        Mark::No => 0x4F4E,
-    }
-}
-
-fn blank_of(v: Record) -> Blank
-    ensures { λ r. ⌜ (r ≡ blankOf v) × (r .head ≤ 281470681808895 + 72057594037927936 * v .font) ⌝ }
+// A record like that of a column's first byte, for its k-th: fonts go on by one.
+fn like(v: Record, k: u8, column: Dots, b: u8) -> Record
+    requires { ⌜ (1 ≤ k) × (v .font + (k - 1) ≤ 255) ⌝ }
+    ensures { λ r. ⌜ r ≡ likeAt (ofPart v k) (column .0) b ⌝ }
 {
     let mark = v.mark;
-    Blank {
-        head: mark_number(mark)
-            + 4294967296 * (v.row.0 % 65536) as u64
-            + 72057594037927936 * v.font as u64,
-        tail: v.style as u32 + 65536 * v.country as u32,
-        advance: v.advance.0,
+    let row = v.row;
+    let advance = v.advance;
+    Record {
+        mark,
+        column,
+        row,
+        byte: b,
+        font: v.font + (k - 1),
+        style: v.style,
+        country: v.country,
+        advance,
     }
-}
-
-// The bytes of the record of a column's k-th byte, as digits: they are stored as three numbers.
-fn bytes_at(blank: Blank, k: u8, column: Dots, b: u8) -> [u8; Record::SIZE]
-    requires { ⌜ (1 ≤ k) × (headAt blank k (column .0) b < 18446744073709551616) ⌝ }
-    ensures { λ r. ⌜ r ≡ digits (headAt blank k (column .0) b) (blank .tail) (blank .advance) ⌝ }
-{
-    let h = blank.head
-        + 72057594037927936 * (k - 1) as u64
-        + 65536 * column.0 as u64
-        + 281474976710656 * b as u64;
-    let t = blank.tail;
-    let a = blank.advance;
-    [
-        (h % 256) as u8,
-        (h / 256 % 256) as u8,
-        (h / 65536 % 256) as u8,
-        (h / 16777216 % 256) as u8,
-        (h / 4294967296 % 256) as u8,
-        (h / 1099511627776 % 256) as u8,
-        (h / 281474976710656 % 256) as u8,
-        (h / 72057594037927936 % 256) as u8,
-        (t % 256) as u8,
-        (t / 256 % 256) as u8,
-        (t / 65536 % 256) as u8,
-        (t / 16777216 % 256) as u8,
-        (a % 256) as u8,
-        (a / 256 % 256) as u8,
-    ]
-}
-
-// Writes a record's bytes from `at`.
-fn write_bytes(out: &mut [u8], at: usize, all: [u8; Record::SIZE])
-    requires { ⌜ at + recordSize ≤ length (now out) ⌝ }
-    ensures { λ _. ⌜ ((v : Record) → all ≡ encoded v → Written (now (out .entry)) at (v ∷ []) (at + recordSize) (now (out .exit))) ⌝ }
-{
-    let end = at + Record::SIZE;
-    bytes::copy(&all, &mut out[at..end]);
 }
 
 // Where a byte of a series stands: its exact place, which byte of its column it is, and how many columns are done before it.
@@ -100,9 +52,9 @@ pub(crate) struct Spot {
 }
 
 // The spot after a byte: the last of a column ends it.
-fn next_spot(s: Spot, by: u32, bytes: u8) -> Spot
+fn next_spot(s: Spot, by: Exact, bytes: u8) -> Spot
     requires { ⌜ (s .part ≤ bytes) × (s .done ≤ 28800) ⌝ }
-    ensures { λ r. ⌜ r ≡ spotAfter s by bytes ⌝ }
+    ensures { λ r. ⌜ r ≡ spotAfter s (by .0) bytes ⌝ }
 {
     let exact = s.exact;
     if s.part == bytes {
@@ -128,19 +80,22 @@ pub(crate) struct Placed {
 }
 
 // Places the input, from the k-th byte of a column on, up to a byte that does not print: records like that of a column's first byte, each column a
-// step further and rounded from its exact place. The allowance falls by one for each byte.
+// step further, from an exact place and by an exact step. The allowance falls by one for each byte.
 fn place_all(
     v: Record,
     from: u8,
     d: u32,
     across: Units,
     step: Units,
+    first: Exact,
+    by: Exact,
     bytes: u8,
     k: u8,
     input: &[u8],
     out: &mut [u8],
     allowance: usize,
 ) -> Placed
+    requires { ⌜ Walks d (across .0) (step .0) (first .0) (by .0) ⌝ }
     requires { ⌜ (d ≤ 300) × ((0 < step .0) × (v .font + bytes ≤ 256)) ⌝ }
     requires { ⌜ (1 ≤ k) × (k ≤ bytes) ⌝ }
     requires { ⌜ OnLine (length (now input)) bytes k (across .0) (step .0) 28800 ⌝ }
@@ -151,10 +106,8 @@ fn place_all(
         (recordSize * r .count) (now (out .exit)) ⌝ }
     ensures { λ r. ⌜ r .left + r .count ≡ allowance ⌝ }
 {
-    let blank = blank_of(v);
-    let by = rounding::parts(step, d);
     let mut spot = Spot {
-        exact: rounding::exact_place(across, d),
+        exact: first,
         part: k,
         done: 0,
     };
@@ -169,7 +122,7 @@ fn place_all(
         }
         left -= 1;
         let column = rounding::whole_dots(spot.exact);
-        write_bytes(&mut *out, at, bytes_at(blank, spot.part, column, b));
+        write_record(&mut *out, at, like(v, spot.part, column, b));
         spot = next_spot(spot, by, bytes);
         n += 1;
         at += Record::SIZE;
@@ -225,12 +178,22 @@ pub(crate) fn most_here(
     )
 }
 
+// The exact place of the position across.
+pub(crate) fn exact_place(m: &[u32; COUNT]) -> Exact
+    ensures { λ r. ⌜ r ≡ record { 0 = packed (getD (now (m .entry)) acrossAt 0 * perInchAcross (resolutionOf (getD (now (m .entry)) dotsAcrossAt 0)) + 1800) } ⌝ }
+{
+    let resolution = resolution_of(m[DOTS_ACROSS]);
+    rounding::place(resolution, Units(m[ACROSS]))
+}
+
 // Places the first bytes, at most so many, from the k-th of a column on, up to one that does not print; moves the position across.
 pub(crate) fn place_run(
     m: &mut [u32; COUNT],
     v: Record,
     from: u8,
     step: Units,
+    first: Exact,
+    by: Exact,
     bytes: u8,
     k: u8,
     most: usize,
@@ -239,6 +202,7 @@ pub(crate) fn place_run(
     allowance: usize,
 ) -> Placed
     requires { ⌜ Placeable (now m) v (step .0) bytes k most (length (now input)) allowance (length (now out)) ⌝ }
+    requires { ⌜ Walks (getD (now m) dotsAcrossAt 0) (getD (now m) acrossAt 0) (step .0) (first .0) (by .0) ⌝ }
     ensures { λ r. ⌜ Placing (now (m .entry)) v from (step .0) bytes k most (now (input .entry)) (now (out .entry)) allowance r
         (now (m .exit)) (now (out .exit)) ⌝ }
 {
@@ -250,6 +214,8 @@ pub(crate) fn place_run(
         d,
         Units(across),
         step,
+        first,
+        by,
         bytes,
         k,
         &input[0..most],
@@ -277,8 +243,23 @@ pub(crate) fn place_columns(
     ensures { λ r. ⌜ Placing (now (m .entry)) v 0 (step .0) bytes k most (now (input .entry)) (now (out .entry)) allowance r
         (now (m .exit)) (now (out .exit)) ⌝ }
 {
+    let first = exact_place(&*m);
+    let by = rounding::step(resolution_of(m[DOTS_ACROSS]), step);
     if bytes == 1 {
-        return place_run(m, v, 0, step, 1, 1, most, input, out, allowance);
+        return place_run(m, v, 0, step, first, by, 1, 1, most, input, out, allowance);
     }
-    place_run(m, v, 0, step, bytes, k, most, input, out, allowance)
+    place_run(
+        m,
+        v,
+        0,
+        step,
+        first,
+        by,
+        bytes,
+        k,
+        most,
+        input,
+        out,
+        allowance,
+    )
 }

@@ -4,6 +4,7 @@ use crate::letters::image_byte;
 use crate::letters::image_record;
 use crate::letters::letter;
 use crate::letters::letter_record;
+use crate::series::exact_place;
 use crate::series::most_here;
 use crate::series::place_columns;
 use crate::series::place_run;
@@ -16,6 +17,7 @@ use framing::codes;
 use framing::image_wait;
 use framing::prints;
 use framing::upper_letters;
+use measures::rounding::Exact;
 use measures::widths::image_bytes;
 use measures::widths::image_step;
 use printer::commands::ImageMode;
@@ -23,6 +25,7 @@ use printer::commands::Waiting;
 use printer::records::Record;
 use printer::units::Units;
 use registers::ADVANCE;
+use registers::ADVANCE_DOTS;
 use registers::COUNT;
 use registers::UPPER_PRINTS;
 ghost use mathlib.Core.Path.{_≡_};
@@ -88,11 +91,15 @@ fn take_letters(
     let step = Units(m[ADVANCE]);
     let size = input.len();
     let most = most_here(&*m, step, 1, 1, size, size, out.len());
+    let first = exact_place(&*m);
+    let by = Exact(m[ADVANCE_DOTS]);
     let placed = place_run(
         &mut *m,
         v,
         from,
         step,
+        first,
+        by,
         1,
         1,
         most,

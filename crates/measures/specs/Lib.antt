@@ -1,1 +1,3 @@
+pub mod Encoding
+pub mod Exact
 pub mod Styles

@@ -2,7 +2,9 @@
 use printer::records::Mark;
 use printer::records::Record;
 ghost use mathlib.Core.Path.{_≡_};
+ghost use Prim.Native.Nat.{_+_, _*_};
 ghost use Rattle.printer.specs.Records.{markLow, markHigh, low, high, encoded};
+ghost use Rattle.measures.specs.Encoding.{withLook};
 
 // A two-byte field.
 struct Word {
@@ -46,14 +48,22 @@ fn mark_high(mark: Mark) -> u8
     }
 }
 
-// A record's bytes: two-byte fields low byte first.
-pub fn encoded(r: Record) -> [u8; Record::SIZE]
-    ensures { λ bytes. ⌜ bytes ≡ encoded r ⌝ }
+// Style and country as one number, which is stored at once.
+struct Look(u32);
+
+fn look_of(r: Record) -> Look
+    ensures { λ n. ⌜ n ≡ record { 0 = r .style + 65536 * r .country } ⌝ }
+{
+    Look(r.style as u32 + 65536 * r.country as u32)
+}
+
+// A record's bytes, those of style and country from that number.
+fn with_look(r: Record, look: Look) -> [u8; Record::SIZE]
+    ensures { λ bytes. ⌜ bytes ≡ withLook r (look .0) ⌝ }
 {
     let mark = r.mark;
     let column = split(r.column.0);
     let row = split(r.row.0);
-    let style = split(r.style as u32);
     let advance = split(r.advance.0);
     [
         mark_low(mark),
@@ -64,11 +74,18 @@ pub fn encoded(r: Record) -> [u8; Record::SIZE]
         row.high,
         r.byte,
         r.font,
-        style.low,
-        style.high,
-        r.country,
-        0,
+        (look.0 % 256) as u8,
+        (look.0 / 256 % 256) as u8,
+        (look.0 / 65536 % 256) as u8,
+        (look.0 / 16777216 % 256) as u8,
         advance.low,
         advance.high,
     ]
+}
+
+// A record's bytes: two-byte fields low byte first.
+pub fn encoded(r: Record) -> [u8; Record::SIZE]
+    ensures { λ bytes. ⌜ bytes ≡ encoded r ⌝ }
+{
+    with_look(r, look_of(r))
 }

@@ -1,12 +1,16 @@
 // Base, advance and column width.
+use crate::rounding::per_inch_across;
 use printer::commands::ImageMode;
 use printer::settings::Pitch;
 use printer::settings::Width;
+use printer::units::Resolution;
 use printer::units::Units;
 ghost use mathlib.Core.Path.{_≡_};
-ghost use Prim.Native.Nat.{_≤_};
-ghost use Rattle.printer.specs.Units.{units};
+ghost use Prim.Native.Nat.{_*_, _≤_};
+ghost use lib.Dec.{eqb};
+ghost use Rattle.printer.specs.Units.{units, perInchAcross};
 ghost use Rattle.printer.specs.Widths.{base, doubleWidth, advance, columnWidth, imageStep, imageBytes};
+ghost use Rattle.measures.specs.Exact.{packed};
 
 fn base_units(w: Width) -> u32
     ensures { λ r. ⌜ (r ≡ base (w .pitch) (w .reduced) (w .proportional)) × (r ≤ 360) ⌝ }
@@ -48,6 +52,17 @@ pub fn advance(w: Width) -> Units
     ensures { λ r. ⌜ r ≡ units (advance w) ⌝ }
 {
     Units(advance_units(w))
+}
+
+// Whether a number is the exact step of the advance: it gives the advance back.
+pub fn is_advance_dots(n: u32, resolution: Resolution, w: Width) -> bool
+    ensures { λ r. ⌜ r ≡ eqb n (packed (advance w * perInchAcross resolution)) ⌝ }
+{
+    let parts = advance_units(w) * per_inch_across(resolution);
+    if n < 235929600 {
+        return n % 65536 * 3600 + n / 65536 == parts;
+    }
+    false
 }
 
 // The width of the columns that margins and tab stops count.

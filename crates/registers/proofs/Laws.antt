@@ -1,6 +1,6 @@
 -- The registers of a printer are read as it, and what follows from its settings is kept.
 use Prim.Native.Nat.{ℕ, _%_, _≤_}
-use mathlib.Core.Path.{_≡_, refl, ap}
+use mathlib.Core.Path.{_≡_, refl, ap, _∙_}
 use mathlib.Core.Bool.{Bool, true, false}
 use mathlib.Core.List.{List}
 use native.Mathlib.Omega.{arith}
@@ -11,7 +11,7 @@ use Rattle.printer.specs.declared.settings.Width.{Width}
 use Rattle.printer.specs.declared.state.Printer.{Printer}
 use Rattle.printer.specs.declared.units.Resolution.{Resolution}
 use Rattle.registers.specs.declared.pending.Pending.{Pending}
-use Rattle.registers.specs.Layout.{Derived, flag, pitchNumber, laid}
+use Rattle.registers.specs.Layout.{Derived, flag, pitchNumber, advanceDots, laid}
 use Rattle.registers.specs.Groups.{isSet, resolutionOf, pitchOf, widthIn, settingsIn}
 use Rattle.registers.specs.Keeping.{widthsStored, measured}
 use Rattle.registers.specs.Held.{Small}
@@ -43,8 +43,11 @@ module _ (v : Pending) (d : Derived) (p : Printer) (h : Small (p .settings)) whe
   settings-back =
       simp (set-flag, resolution-back, pitch-back, byte-back (h .0), byte-back (h .1 .0), byte-back (h .1 .1 .0), byte-back (h .1 .1 .1))
 
--- the advance and the column width, whatever stood there
+-- the advance, the column width and the advance in dots, whatever stood there
 pub measured-laid : (v : Pending) (d : Derived) (p : Printer) → Small (p .settings)
-    → measured (laid v d p) ≡ laid v (record { style = d .style; advance = advanceOf (p .settings); column = columnOf (p .settings) }) p
+    → measured (laid v d p) ≡ laid v (record { style = d .style; advance = advanceOf (p .settings); column = columnOf (p .settings); dots = advanceDots (p .settings) }) p
 unfolding laid measured
-measured-laid v d p h = ap (λ (w : Width). widthsStored w (laid v d p)) (width-back v d p h)
+measured-laid v d p h =
+    let r = p .settings .setup .resolution in
+    ap (λ (w : Width). widthsStored (resolutionOf (perInchAcross r)) w (laid v d p)) (width-back v d p h)
+    ∙ ap (λ (q : Resolution). widthsStored q (p .settings .width) (laid v d p)) (resolution-back r)

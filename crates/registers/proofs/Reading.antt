@@ -14,8 +14,8 @@ use Rattle.printer.specs.declared.settings.Width.{Width}
 use Rattle.printer.specs.declared.state.Place.{Place}
 use Rattle.printer.specs.declared.state.Printer.{Printer}
 use Rattle.registers.specs.declared.pending.Pending.{Pending}
-use Rattle.registers.specs.Register.{autoFeedAt, draftAt, upperPrintsAt, styleAt, advanceAt, columnWidthAt, chosenAt}
-use Rattle.registers.specs.Layout.{laid}
+use Rattle.registers.specs.Register.{autoFeedAt, draftAt, upperPrintsAt, styleAt, advanceAt, columnWidthAt, advanceDotsAt, chosenAt}
+use Rattle.registers.specs.Layout.{advanceDots, laid}
 use Rattle.registers.specs.Groups.{isSet, placeIn, setupIn, marginsIn, paperIn, settingsIn}
 use Rattle.registers.specs.Held.{Held}
 use Rattle.registers.proofs.Laws.{set-flag, resolution-back, settings-back}
@@ -51,6 +51,10 @@ module _ {p : Printer} {v : Pending} {m : List ℕ} (h : Held p v m) where
   pub column-held : getD m columnWidthAt 0 ≡ columnOf (p .settings)
   unfolding laid
   column-held = rw (h .same)
+
+  pub advance-dots-held : getD m advanceDotsAt 0 ≡ advanceDots (p .settings)
+  unfolding laid
+  advance-dots-held = rw (h .same)
 
   pub autofeed-held : isSet (getD m autoFeedAt 0) ≡ p .settings .setup .autofeed
   unfolding laid

@@ -20,7 +20,7 @@ started t l r = stores columnCells (stores (powerOnCells (t .width)) (stores (se
 pub power-on-words : (t : Setup) (m : List ℕ) → acrossAt ≤ length m → measured (started t m (drop channelStopsAt m)) ≡ words (staleIn m) (restarted t (drop channelStopsAt m))
 unfolding firsts laid styleOf
 power-on-words t m h =
-    let none : Derived = record { style = 0; advance = 0; column = 0 } in
+    let none : Derived = record { style = 0; advance = 0; column = 0; dots = 0 } in
     let e : started t m (drop channelStopsAt m) ≡ laid (staleIn m) none (restarted t (drop channelStopsAt m)) =
     ap (λ (l : List ℕ). started t l (drop channelStopsAt m)) (listed acrossAt m h) ∙ ap (started t (firsts acrossAt 0 m)) (sym (append-nil (drop channelStopsAt m))) in
     ap measured e ∙ measured-laid (staleIn m) none (restarted t (drop channelStopsAt m)) (omega arith)

@@ -1,5 +1,5 @@
 -- The state as registers. Each group stands before a tail, so that the registers after it are none of its concern.
-use Prim.Native.Nat.{ℕ}
+use Prim.Native.Nat.{ℕ, _*_}
 use mathlib.Core.Bool.{Bool}
 use mathlib.Core.List.{List, [], _∷_, _++_}
 use Rattle.printer.specs.Tools.{pick}
@@ -13,6 +13,7 @@ use Rattle.printer.specs.declared.state.Printer.{Printer}
 use Rattle.printer.specs.declared.stops.Channels.{Channels}
 use Rattle.printer.specs.declared.stops.Stops.{Stops}
 use Rattle.printer.specs.declared.stops.TabStops.{TabStops}
+use Rattle.measures.specs.Exact.{packed}
 use Rattle.registers.specs.declared.pending.Pending.{Pending}
 
 abbrev pub flag : Bool → ℕ
@@ -28,9 +29,14 @@ pub record Derived : Type 0 where
   pub style : ℕ
   pub advance : ℕ
   pub column : ℕ
+  pub dots : ℕ
+
+-- the advance in dots across, as an exact step
+abbrev pub advanceDots : Settings → ℕ
+advanceDots s = packed (advanceOf s * perInchAcross (s .setup .resolution))
 
 abbrev pub derivedOf : Settings → Derived
-derivedOf s = record { style = styleOf s; advance = advanceOf s; column = columnOf s }
+derivedOf s = record { style = styleOf s; advance = advanceOf s; column = columnOf s; dots = advanceDots s }
 
 -- from kindAt on
 abbrev pub pendingWords : Pending → List ℕ → List ℕ
@@ -56,7 +62,7 @@ settingsWords s l =
 
 -- from styleAt on
 abbrev pub derivedWords : Derived → List ℕ → List ℕ
-derivedWords d l = d .style ∷ d .advance ∷ d .column ∷ l
+derivedWords d l = d .style ∷ d .advance ∷ d .column ∷ d .dots ∷ l
 
 -- a count, and its stops
 abbrev pub listWords : TabStops → List ℕ → List ℕ

@@ -139,10 +139,13 @@ advanceAt = styleAt + 1
 abbrev pub columnWidthAt : ℕ
 columnWidthAt = styleAt + 2
 
+abbrev pub advanceDotsAt : ℕ
+advanceDotsAt = styleAt + 3
+
 -- the chosen channel; then two lists of stops, each a count and its stops
 
 abbrev pub chosenAt : ℕ
-chosenAt = columnWidthAt + 1
+chosenAt = advanceDotsAt + 1
 
 abbrev pub columnCountAt : ℕ
 columnCountAt = chosenAt + 1

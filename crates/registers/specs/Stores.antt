@@ -23,8 +23,8 @@ use Rattle.printer.specs.declared.stops.Stops.{Stops}
 use Rattle.printer.specs.declared.stops.TabStops.{TabStops}
 use Rattle.printer.specs.declared.units.Units.{Units}
 use Rattle.registers.specs.declared.pending.Pending.{Pending}
-use Rattle.registers.specs.Register.{kindAt, commandAt, argumentAt, imageModeAt, imageByteAt, imageColumnsAt, acrossAt, downAt, leftAt, rightAt, pageAt, skipAt, lineAt, dotsAcrossAt, dotsDownAt, autoFeedAt, paperWidthAt, pitchAt, spacingAt, wideAt, wideOnceAt, reducedAt, proportionalAt, boldAt, doubleStrikeAt, italicAt, underlineAt, superscriptAt, subscriptAt, fontAt, countryAt, outlineAt, doubleHeightAt, italicTableAt, downloadAt, draftAt, upperPrintsAt, styleAt, advanceAt, columnWidthAt, chosenAt, columnCountAt, columnStopsAt, gatheredCountAt, channelCountsAt, channelStopsAt}
-use Rattle.registers.specs.Layout.{flag, pitchNumber}
+use Rattle.registers.specs.Register.{kindAt, commandAt, argumentAt, imageModeAt, imageByteAt, imageColumnsAt, acrossAt, downAt, leftAt, rightAt, pageAt, skipAt, lineAt, dotsAcrossAt, dotsDownAt, autoFeedAt, paperWidthAt, pitchAt, spacingAt, wideAt, wideOnceAt, reducedAt, proportionalAt, boldAt, doubleStrikeAt, italicAt, underlineAt, superscriptAt, subscriptAt, fontAt, countryAt, outlineAt, doubleHeightAt, italicTableAt, downloadAt, draftAt, upperPrintsAt, styleAt, advanceAt, columnWidthAt, advanceDotsAt, chosenAt, columnCountAt, columnStopsAt, gatheredCountAt, channelCountsAt, channelStopsAt}
+use Rattle.registers.specs.Layout.{flag, pitchNumber, advanceDots}
 
 -- numbers stored at their places, in turn
 abbrev pub stores : List (ℕ × ℕ) → List ℕ → List ℕ
@@ -60,7 +60,7 @@ abbrev pub printingCells : (draft upperprints : Bool) → List (ℕ × ℕ)
 printingCells draft upperprints = (draftAt, flag draft) ∷ (upperPrintsAt, flag upperprints) ∷ []
 
 abbrev pub derivedCells : Settings → List (ℕ × ℕ)
-derivedCells s = (styleAt, styleOf s) ∷ (advanceAt, advanceOf s) ∷ (columnWidthAt, columnOf s) ∷ []
+derivedCells s = (styleAt, styleOf s) ∷ (advanceAt, advanceOf s) ∷ (columnWidthAt, columnOf s) ∷ (advanceDotsAt, advanceDots s) ∷ []
 
 -- all of the settings
 unfoldable pub settingsStored : Settings → List ℕ → List ℕ

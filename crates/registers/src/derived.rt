@@ -1,8 +1,10 @@
-// What follows from the settings: style bits, advance, column width.
+// What follows from the settings: style bits, advance, column width, advance in dots.
 use crate::ADVANCE;
+use crate::ADVANCE_DOTS;
 use crate::BOLD;
 use crate::COLUMN_WIDTH;
 use crate::COUNT;
+use crate::DOTS_ACROSS;
 use crate::DOUBLE_HEIGHT;
 use crate::DOUBLE_STRIKE;
 use crate::DOWNLOAD;
@@ -17,9 +19,12 @@ use crate::SUPERSCRIPT;
 use crate::UNDERLINE;
 use crate::WIDE;
 use crate::WIDE_ONCE;
+use crate::groups::resolution_of;
 use crate::groups::width_in;
+use measures::rounding;
 use measures::widths;
 use printer::settings::Width;
+use printer::units::Resolution;
 ghost use mathlib.Core.Path.{_≡_};
 ghost use Prim.Native.Nat.{_≤_};
 ghost use Rattle.registers.specs.Register.{downloadAt};
@@ -115,18 +120,21 @@ pub fn store_double(m: &mut [u32; COUNT], wide: u32, once: u32)
     keep_style(m, showed, (wide | once) % 2 * 0x40);
 }
 
-// The advance and the column width of a width.
-pub(crate) fn store_widths(m: &mut [u32; COUNT], w: Width)
-    ensures { λ _. ⌜ now (m .exit) ≡ widthsStored w (now (m .entry)) ⌝ }
+// The advance, the column width and the advance in dots of a width.
+pub(crate) fn store_widths(m: &mut [u32; COUNT], resolution: Resolution, w: Width)
+    ensures { λ _. ⌜ now (m .exit) ≡ widthsStored resolution w (now (m .entry)) ⌝ }
 {
-    m[ADVANCE] = widths::advance(w).0;
+    let advance = widths::advance(w);
+    m[ADVANCE] = advance.0;
     m[COLUMN_WIDTH] = widths::column_width(w).0;
+    m[ADVANCE_DOTS] = rounding::step(resolution, advance).0;
 }
 
 // Stores those of the width in the registers.
 pub fn keep_widths(m: &mut [u32; COUNT])
     ensures { λ _. ⌜ now (m .exit) ≡ measured (now (m .entry)) ⌝ }
 {
+    let resolution = resolution_of(m[DOTS_ACROSS]);
     let w = width_in(&*m);
-    store_widths(m, w);
+    store_widths(m, resolution, w);
 }

@@ -11,7 +11,7 @@ use printer::stops::Channels;
 use printer::stops::TabStops;
 
 // How many registers there are.
-pub const COUNT: usize = 243;
+pub const COUNT: usize = 244;
 
 // What is waited for: its kind, the escape's second byte, the argument or list byte before; an image's mode, or the channel that a list sets; the
 // byte of a column that comes, and the columns left.
@@ -96,15 +96,17 @@ pub const DRAFT: usize = DOWNLOAD + 1;
 
 pub const UPPER_PRINTS: usize = DRAFT + 1;
 
-// What follows from the settings: style bits, advance, column width.
+// What follows from the settings: style bits, advance, column width, and the advance in dots across, as an exact step.
 pub const STYLE: usize = UPPER_PRINTS + 1;
 
 pub const ADVANCE: usize = STYLE + 1;
 
 pub const COLUMN_WIDTH: usize = STYLE + 2;
 
+pub const ADVANCE_DOTS: usize = STYLE + 3;
+
 // The chosen channel; then two lists of stops, each a count and its stops.
-pub const CHOSEN: usize = COLUMN_WIDTH + 1;
+pub const CHOSEN: usize = ADVANCE_DOTS + 1;
 
 pub const COLUMN_COUNT: usize = CHOSEN + 1;
 

@@ -150,9 +150,11 @@ fn store_printing(m: &mut [u32; COUNT], draft: bool, upperprints: bool)
 fn store_derived(m: &mut [u32; COUNT], s: Settings)
     ensures { λ _. ⌜ now (m .exit) ≡ stores (derivedCells s) (now (m .entry)) ⌝ }
 {
+    let setup = s.setup;
     let width = s.width;
+    let resolution = setup.resolution;
     m[STYLE] = style_of(s) as u32;
-    store_widths(m, width);
+    store_widths(m, resolution, width);
 }
 
 // The settings, with what follows from them.

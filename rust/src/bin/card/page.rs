@@ -6,8 +6,8 @@ use std::collections::HashMap;
 
 /// The bytes of a row's records up to which nothing is looked for that could be
 /// let go: more than a line has that is written a few times, or of images once.
-const MANY_LETTERS: usize = 1 << 14;
-const MANY_IMAGES: usize = 1 << 17;
+const MANY_LETTERS: usize = 1_170 * RECORD_SIZE;
+const MANY_IMAGES: usize = 9_362 * RECORD_SIZE;
 /// A letter's font, which nothing shows, among the bytes of its record.
 const FONT: usize = 7;
 

@@ -9,7 +9,7 @@ use Rattle.printer.proofs.Modes.{step-within}
 use Rattle.registers.specs.Register.{acrossAt, rightAt}
 use Rattle.interpreter.specs.Taking.{Fits}
 use Rattle.interpreter.proofs.SeriesLoop.{fewer-fit, none-done, done-few, not-moved, not-written}
-use Rattle.interpreter.proofs.Taken.{in-margins, right-most, image-bounds, image-fonts, columns-taken}
+use Rattle.interpreter.proofs.Taken.{in-margins, right-most, inch-known, image-bounds, image-fonts, columns-taken}
 use Rattle.interpreter.proofs.turn.take_images.Statement.{statement}
 use Rattle.interpreter.proofs.turn.take_images.Tie as tie
 
@@ -41,6 +41,7 @@ place-columns-requires c κs =
       fonts = rw (r .image-record .ensures _ _ (k .held), r .before .column-part .ensures, b .image-bytes .ensures) (image-fonts (a .args .mode));
       line = f .line;
       paper = right-most k;
+      inch = inch-known k;
       read = (f .some-input, omega (arith, f .some-input, a .pre .1 .1));
       written = omega (arith, f .some-room);
     }
