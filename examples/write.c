@@ -1,6 +1,6 @@
 /*
  * Writes a card: two lines of a heading and a state, their letters at places in units of 1/3600 inch. Then reads it back in
- * pieces of seven bytes and shows each letter at its dots.
+ * pieces of seven bytes and shows each letter at its dots, and its exact place across again.
  *
  *     write [DOTS]     at 300 dots to the inch, or 203
  */
@@ -31,14 +31,15 @@ static void add_word(letters *letters, const char *word, uint16_t across, uint16
     }
 }
 
-/* Shows the letters of the records. */
-static void show(const uint8_t *out, size_t length)
+/* Shows the letters of the records, at so many dots to the inch across. */
+static void show(const uint8_t *out, size_t length, uint32_t dots)
 {
     for (size_t at = 0; at < length; at += ESCP_RECORD_SIZE) {
         escp_record record;
         escp_fill_record(&record, out + at);
         if (record.mark == ESCP_TX)
-            printf("%c at column %u, row %u\n", record.byte, record.column, record.row);
+            printf("%c at column %u, row %u, %u units across\n", record.byte, record.column, record.row,
+                   (unsigned)escp_place(record.column, record.rest, dots));
         else if (record.mark != ESCP_LN)
             printf("a record that no card gives\n");
     }
@@ -66,7 +67,7 @@ int main(int count, char **words)
         answer = escp_read(&state, card + at, length, SIZE_MAX, out, sizeof out, &counts);
         if (answer != ESCP_INPUT_USED)
             return 1;
-        show(out, counts.written);
+        show(out, counts.written, state.dots_across);
     }
     return 0;
 }

@@ -70,7 +70,7 @@ enum {
 
 /* Sizes. */
 enum {
-    ESCP_RECORD_SIZE = 14,            /* the bytes of a record */
+    ESCP_RECORD_SIZE = 16,            /* the bytes of a record */
     ESCP_ROOM = 2 * ESCP_RECORD_SIZE, /* must be left in the output to read a byte, which writes at most 2 records */
     ESCP_REGISTERS = 244,             /* the numbers of a state */
     ESCP_TAB_STOPS = 32,              /* the room of a list of tab stops */
@@ -244,7 +244,7 @@ uint8_t escp_read(escp_state *state, const uint8_t *input, size_t input_length, 
 /* The marks of records: two letters, the first in the low byte. */
 enum {
     ESCP_TX = 0x5854, /* a letter: all fields but pages and reason */
-    ESCP_IM = 0x4D49, /* a byte of image data: column, row, byte, font, advance */
+    ESCP_IM = 0x4D49, /* a byte of image data: column, row, byte, font, advance, rest */
     ESCP_LN = 0x4E4C, /* a line fed or a page turned: the new row, pages */
     ESCP_CL = 0x4C43, /* the TX and IM since the last LN, CL or start are void */
     ESCP_NO = 0x4F4E  /* what was passed over: byte, reason */
@@ -288,6 +288,9 @@ enum {
  *
  * Style bits, from the lowest: bold, double strike, italic, underline, superscript, subscript, double width, double
  * height, two bits of the ESC q number, proportional, reduced, italic code table, download set.
+ *
+ * The rest is how far the exact place is off the dot column, in 1/3600 dot: from -1800 to 1799, more than 0 to the right.
+ * Column and rest together are that place (escp_place).
  */
 typedef struct escp_record {
     uint16_t mark;    /* ESCP_TX, ESCP_IM, ESCP_LN, ESCP_CL or ESCP_NO */
@@ -298,6 +301,7 @@ typedef struct escp_record {
     uint16_t style;   /* bits, see above */
     uint8_t country;  /* the ESC R number */
     uint16_t advance; /* in units of 1/3600 inch; IM: the width of its column, in each of its bytes */
+    int16_t rest;     /* TX, IM: of the exact place across, see above */
     uint8_t pages;    /* LN: the pages turned, or ESCP_NEW_TOP */
     uint8_t reason;   /* NO: ESCP_UNLISTED to ESCP_NO_STOP */
 } escp_record;
@@ -308,9 +312,16 @@ static inline uint16_t escp_two_bytes(const uint8_t *bytes)
     return (uint16_t)(bytes[0] + 256u * bytes[1]);
 }
 
+/* A number of two bytes, as a signed one. */
+static inline int16_t escp_signed(uint16_t number)
+{
+    return (int16_t)(number < 0x8000u ? number : (int32_t)number - 0x10000);
+}
+
 /*
  * Fills *record from the ESCP_RECORD_SIZE bytes of a record: mark (2 bytes), column (2), row (2), byte, font, style (2),
- * country, zero, advance (2). An LN has its pages where others have the byte, and a NO its reason in place of a style.
+ * country, zero, advance (2), rest (2). An LN has its pages where others have the byte, and a NO its reason in place of
+ * a style.
  */
 static inline void escp_fill_record(escp_record *record, const uint8_t *bytes)
 {
@@ -322,6 +333,7 @@ static inline void escp_fill_record(escp_record *record, const uint8_t *bytes)
     record->style = escp_two_bytes(bytes + 8);
     record->country = bytes[10];
     record->advance = escp_two_bytes(bytes + 12);
+    record->rest = escp_signed(escp_two_bytes(bytes + 14));
     record->pages = 0;
     record->reason = 0;
     if (record->mark == ESCP_LN) {
@@ -341,8 +353,9 @@ static inline void escp_fill_record(escp_record *record, const uint8_t *bytes)
  * from the top of the page. The record has the nearest dots of it: dot = (units x D + 1800) div 3600, where D is
  * dots_across of the state for a column and dots_down for a row (escp_dot). Only places are rounded: widths, feeds and
  * stops add up in units. So the dots of an advance are not to be added up: at 203 dots letters of 360 units stand at 0,
- * 20, 41, 61. A letter's cell goes from its place to the right by its advance, spacing included; how high it is the
- * papers leave open.
+ * 20, 41, 61. What rounding took off or put on across is the rest of a TX or an IM, units x D - 3600 x dot, so that who
+ * draws between dots has the exact place across too (escp_place). A letter's cell goes from its place to the right by its
+ * advance, spacing included; how high it is the papers leave open.
  *
  * A horizontal tab stop of n columns lies at left + n x column_width units, with the numbers of the state now: stops
  * move with the left margin, the pitch and the width of letters. HT goes only to those at or before `right`. So a slot
@@ -366,6 +379,12 @@ enum {
 static inline uint32_t escp_dot(uint32_t units, uint32_t dots)
 {
     return (units * dots + 1800u) / 3600u;
+}
+
+/* The exact place across of a TX or an IM, in units, from its dot column and rest; dots is dots_across of the state. */
+static inline uint32_t escp_place(uint16_t column, int16_t rest, uint32_t dots)
+{
+    return (uint32_t)(3600 * (int32_t)column + rest) / dots;
 }
 
 /* How far below its row a dot of an image byte begins, in units: of dots 0 to 7, from the top, of a byte with this font. */

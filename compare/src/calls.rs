@@ -3,8 +3,9 @@
 
 use crate::generate::phrase;
 use crate::random::Random;
+use crate::record::{RECORD_SIZE, ROOM};
 use crate::{NARROWEST, WIDEST};
-use ierbulosc::{Settings, RECORD_SIZE, ROOM};
+use ierbulosc::Settings;
 use plain_reader::{read, Report, State};
 
 #[derive(Clone, PartialEq, Eq, Debug)]

@@ -8,9 +8,11 @@ pub mod text;
 
 use crate::calls::{self, room_for, Call, FILL};
 use crate::hold::{self, Case};
+use crate::record::{self, is_feed, rounded, Record};
+use crate::record::{ADVANCE, BYTE, COLUMN, RECORD_SIZE, REST, ROW};
 use crate::WIDEST;
 use ierbulosc::interface::escp_write;
-use ierbulosc::{Settings, LETTER_SIZE, RECORD_SIZE};
+use ierbulosc::{Settings, LETTER_SIZE};
 
 /// A list of letters, the room to write it to, and how many bytes of the card
 /// are read at a time.
@@ -174,30 +176,26 @@ fn misread(card: &Card, bytes: &[u8], resolution: u32) -> Option<Difference> {
     let top = records.next().is_some_and(|first| is_feed(&first, 255));
     let others: Vec<Vec<u8>> = records.filter(|record| !is_feed(record, 0)).collect();
     let letters = card.letters.chunks_exact(LETTER_SIZE);
-    let due: Vec<Vec<u8>> = letters.map(|letter| text(letter, resolution)).collect();
+    let due: Vec<Record> = letters.map(|letter| text(letter, resolution)).collect();
     let nothing = waiting == Some(&plain_reader::Waiting::Nothing);
     let good = to_the_end && nothing && top && others == due;
     (!good).then_some(Difference::Letters(resolution))
 }
 
-/// Whether a record is an LN of so many pages.
-fn is_feed(record: &[u8], pages: u8) -> bool {
-    record[..2] == *b"LN" && record[6] == pages
-}
-
 /// The TX of a letter, plain and in 10 cpi.
-fn text(letter: &[u8], resolution: u32) -> Vec<u8> {
-    let [across, down] = [1, 3].map(|at| u32::from(letter[at]) + 256 * u32::from(letter[at + 1]));
+fn text(letter: &[u8], resolution: u32) -> Record {
+    let [across, down] = [1, 3].map(|at| i64::from(letter[at]) + 256 * i64::from(letter[at + 1]));
     let down_dots = match resolution {
         203 => 200,
-        dots => dots,
+        dots => dots.into(),
     };
-    let dots = |units: u32, dots: u32| ((units * dots + 1_800) / 3_600) as u16;
-    let mut record = vec![0; RECORD_SIZE];
-    record[..2].copy_from_slice(b"TX");
-    record[2..4].copy_from_slice(&dots(across, resolution).to_le_bytes());
-    record[4..6].copy_from_slice(&dots(down, down_dots).to_le_bytes());
-    record[6] = letter[0];
-    record[12..].copy_from_slice(&360_u16.to_le_bytes());
+    let (column, rest) = rounded(across, resolution.into());
+    let (row, _) = rounded(down, down_dots);
+    let mut record = record::marked(*b"TX");
+    record::set(&mut record, COLUMN, column);
+    record::set(&mut record, ROW, row);
+    record[BYTE] = letter[0];
+    record::set(&mut record, ADVANCE, 360);
+    record::set(&mut record, REST, rest as u16);
     record
 }

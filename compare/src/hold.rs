@@ -1,11 +1,12 @@
 //! The readers held against each other, call by call.
 
 use crate::calls::{self, Call, FILL};
-use crate::reckoning::{expected, Printed, Record};
+use crate::reckoning::{expected, Printed};
+use crate::record::{Record, RECORD_SIZE};
 use crate::registers::{self, without_old_places};
 use crate::runs::{otherwise, InRuns};
 use crate::states;
-use ierbulosc::{Settings, State as Registers, RECORD_SIZE};
+use ierbulosc::{Settings, State as Registers};
 use plain_reader::{Report, State};
 
 /// A state to begin from, if not from a start, and a list of calls.
@@ -113,7 +114,7 @@ fn letters_and_images(came: &Came) -> impl Iterator<Item = Record> + '_ {
 
 /// The exact places against the records.
 fn misprinted(due: Vec<Printed>, came: Vec<Record>) -> Option<Difference> {
-    let good = |(due, came): &(&Printed, &Record)| due.inside && due.record == **came;
+    let good = |(due, came): &(&Printed, &Record)| due.is(came);
     let same = due.iter().zip(&came).take_while(good).count();
     if same == due.len() && same == came.len() {
         return None;

@@ -16,6 +16,7 @@ pub mod inputs;
 pub mod random;
 pub mod received;
 pub mod reckoning;
+pub mod record;
 pub mod registers;
 pub mod runs;
 pub mod settings;

@@ -17,12 +17,10 @@
 
 use crate::calls::{self, Call};
 use crate::received::{Column, Received, Receiving};
+use crate::record::{self, number, Record, ADVANCE, BYTE, COLUMN, COUNTRY, FONT};
+use crate::record::{RECORD_SIZE, REST, ROOM, ROW, STYLE};
 use crate::settings::Settings;
-use ierbulosc::{RECORD_SIZE, ROOM};
 use plain_reader::State;
-
-/// A record as bytes.
-pub type Record = [u8; RECORD_SIZE];
 
 /// A letter or image byte that the rules print.
 #[derive(Clone, Copy, PartialEq, Eq, Debug)]
@@ -34,6 +32,25 @@ pub struct Printed {
     pub down: i64,
     /// Whether left <= across, and across + advance <= right.
     pub inside: bool,
+    /// The dots to the inch across.
+    pub dots: i64,
+}
+
+impl Printed {
+    /// Whether this record is the one that is due: it stands within the
+    /// margins, and its dot column and rest together give the exact place back.
+    pub fn is(&self, came: &Record) -> bool {
+        self.inside && self.record == *came && self.across_of(came) == Some(self.across)
+    }
+
+    /// The exact place across that a record's dot column and rest give, if they
+    /// give one: a rest is less than half a dot, or half a dot to the left.
+    fn across_of(&self, came: &Record) -> Option<i64> {
+        let rest = number(came, REST) as i16;
+        let parts = 3_600 * i64::from(number(came, COLUMN)) + i64::from(rest);
+        let whole = (-1_800..1_800).contains(&rest) && parts % self.dots == 0;
+        whole.then_some(parts / self.dots)
+    }
 }
 
 /// An exact place: what was set last, and the moves since.
@@ -122,7 +139,7 @@ impl Reckoning {
         for record in out[..report.written].chunks_exact(RECORD_SIZE) {
             match &record[..2] {
                 b"NO" => learnt.passed_over = true,
-                b"LN" => learnt.pages = Some(record[6]),
+                b"LN" => learnt.pages = Some(record[BYTE]),
                 b"TX" | b"IM" => learnt.placed = true,
                 _ => {}
             }
@@ -160,10 +177,9 @@ impl Reckoning {
         }
         let advance = self.settings.advance();
         let mut record = self.print(*b"TX", letter, advance);
-        let style = self.settings.style().to_le_bytes();
-        record[7] = self.settings.font;
-        record[8..10].copy_from_slice(&style);
-        record[10] = self.settings.country;
+        record[FONT] = self.settings.font;
+        record::set(&mut record, STYLE, self.settings.style());
+        record[COUNTRY] = self.settings.country;
         self.add(record, advance);
         self.across.moves += advance;
     }
@@ -176,7 +192,7 @@ impl Reckoning {
         }
         let mut record = self.print(*b"IM", byte, column.units);
         if column.bytes > 1 {
-            record[7] = nth;
+            record[FONT] = nth;
         }
         self.add(record, column.units);
         if nth == column.bytes {
@@ -184,16 +200,16 @@ impl Reckoning {
         }
     }
 
-    /// A record at the exact place: mark, column, row, byte and advance.
+    /// A record at the exact place: mark, column, row, byte, advance and rest.
     fn print(&self, mark: [u8; 2], byte: u8, advance: i64) -> Record {
-        let column = dot(self.across.at(), self.settings.dots.0);
-        let row = dot(self.down.at(), self.settings.dots.1);
-        let mut record = [0; RECORD_SIZE];
-        record[..2].copy_from_slice(&mark);
-        record[2..4].copy_from_slice(&column.to_le_bytes());
-        record[4..6].copy_from_slice(&row.to_le_bytes());
-        record[6] = byte;
-        record[12..14].copy_from_slice(&(advance as u16).to_le_bytes());
+        let (column, rest) = record::rounded(self.across.at(), self.settings.dots.0);
+        let (row, _) = record::rounded(self.down.at(), self.settings.dots.1);
+        let mut record = record::marked(mark);
+        record::set(&mut record, COLUMN, column);
+        record::set(&mut record, ROW, row);
+        record[BYTE] = byte;
+        record::set(&mut record, ADVANCE, advance as u16);
+        record::set(&mut record, REST, rest as u16);
         record
     }
 
@@ -204,6 +220,7 @@ impl Reckoning {
             across,
             down: self.down.at(),
             inside: self.settings.left <= across && across + advance <= self.settings.right,
+            dots: self.settings.dots.0,
         });
     }
 
@@ -334,11 +351,6 @@ impl Default for Reckoning {
     fn default() -> Self {
         Reckoning::new()
     }
-}
-
-/// The rounding rule.
-fn dot(units: i64, per_inch: i64) -> u16 {
-    (units * per_inch + 1_800).div_euclid(3_600) as u16
 }
 
 /// What is printed over a list of calls, given the bytes read by each.

@@ -5,8 +5,8 @@ pub mod generate;
 pub mod shortest;
 pub mod text;
 
+use crate::record::{self, Record, COLUMN, RECORD_SIZE};
 use ierbulosc::interface::{escp_slot, Part};
-use ierbulosc::RECORD_SIZE;
 
 /// A list of records, and the range of columns asked for.
 #[derive(Clone, PartialEq, Eq, Debug)]
@@ -112,9 +112,8 @@ fn proved(question: &Question) -> (Answer, bool) {
 }
 
 /// A TX at this column.
-fn letter(column: u16) -> [u8; RECORD_SIZE] {
-    let mut record = [0; RECORD_SIZE];
-    record[..2].copy_from_slice(b"TX");
-    record[2..4].copy_from_slice(&column.to_le_bytes());
+fn letter(column: u16) -> Record {
+    let mut record = record::marked(*b"TX");
+    record::set(&mut record, COLUMN, column);
     record
 }

@@ -3,7 +3,9 @@
 use crate::calls::FILL;
 use crate::fields;
 use crate::hold::{Came, Difference};
-use crate::reckoning::{Printed, Record};
+use crate::reckoning::Printed;
+use crate::record::{number, Record, ADVANCE, BYTE, COLUMN};
+use crate::record::{COUNTRY, FONT, RECORD_SIZE, REST, ROW, STYLE};
 use crate::runs::InRuns;
 use plain_reader::State;
 use std::fmt::Write;
@@ -80,7 +82,7 @@ fn equal_records(plain: &Came, proved: &Came) -> usize {
 
 fn records(came: &Came) -> std::slice::Chunks<'_, u8> {
     let written = &came.out[..came.written.min(came.out.len())];
-    written.chunks(ierbulosc::RECORD_SIZE)
+    written.chunks(RECORD_SIZE)
 }
 
 /// The numbers, and the records after so many equal ones.
@@ -122,17 +124,16 @@ fn states(plain: &Came, proved: &Came) -> String {
 /// A record as bytes and in words.
 fn record(bytes: &[u8]) -> String {
     let mut text: String = bytes.iter().map(|byte| format!("{byte:02x}")).collect();
-    if let [m, n, c0, c1, r0, r1, byte, font, s0, s1, country, _, a0, a1] = *bytes {
-        let word = |low, high| u16::from_le_bytes([low, high]);
-        let mark = [m, n].escape_ascii().to_string();
+    if bytes.len() == RECORD_SIZE {
+        let [column, row, style, advance, rest] =
+            [COLUMN, ROW, STYLE, ADVANCE, REST].map(|field| number(bytes, field));
+        let [byte, font, country] = [BYTE, FONT, COUNTRY].map(|field| bytes[field]);
         let _ = write!(
             text,
-            "  {mark} column {} row {} byte {byte:02X}h font {font} style {} country {country} \
-             advance {}",
-            word(c0, c1),
-            word(r0, r1),
-            word(s0, s1),
-            word(a0, a1)
+            "  {} column {column} row {row} byte {byte:02X}h font {font} style {style} \
+             country {country} advance {advance} rest {}",
+            bytes[..COLUMN].escape_ascii(),
+            rest as i16
         );
     }
     text

@@ -2,9 +2,10 @@
 
 use compare::calls::{calls, run, Call};
 use compare::random::Random;
-use compare::reckoning::{expected, Record};
+use compare::reckoning::{expected, Printed};
+use compare::record::{set, Record, COLUMN, RECORD_SIZE, REST, ROOM};
 use compare::shrink::shrink;
-use ierbulosc::{Settings, RECORD_SIZE};
+use ierbulosc::Settings;
 
 const LISTS: u64 = 5_000;
 
@@ -26,8 +27,8 @@ fn placed(calls: &[Call]) -> (Vec<Record>, Vec<usize>) {
 fn differs(calls: &[Call]) -> bool {
     let (records, reads) = placed(calls);
     let due = expected(calls, &reads);
-    let same = due.iter().map(|printed| &printed.record).eq(&records);
-    !same || due.iter().any(|printed| !printed.inside)
+    let mut pairs = due.iter().zip(&records);
+    due.len() != records.len() || pairs.any(|(due, came)| !due.is(came))
 }
 
 #[test]
@@ -42,6 +43,51 @@ fn agrees_on_generated_calls() {
         printed += placed(&list).0.len();
     }
     assert!(printed > 100_000, "only {printed} letters and image bytes");
+}
+
+/// The comparison's own sizes are those of the library's cover and of the
+/// plain reader.
+#[test]
+fn sizes_are_everyones() {
+    assert_eq!(RECORD_SIZE, ierbulosc::RECORD_SIZE);
+    assert_eq!(ROOM, ierbulosc::ROOM);
+    assert_eq!(ROOM, plain_reader::ROOM_FOR_A_BYTE);
+}
+
+/// Dot column and rest together are the exact place: 20 units at 203 dots are
+/// 4,060 parts, dot 1 and 460. With other dots or rests they are another place,
+/// none, or said by a dot that is not the nearest.
+#[test]
+fn a_record_gives_its_place_back() {
+    let list = [
+        Call::Start(Settings {
+            resolution: 203,
+            ..Settings::default()
+        }),
+        Call::Read {
+            input: b"\x1B\\\x01\x00A".to_vec(),
+            allowance: 100,
+            room: 1_000,
+        },
+    ];
+    let due = expected(&list, &[0, 5])[0];
+    let gives_back = |column: u16, rest: i16| {
+        let mut record = due.record;
+        set(&mut record, COLUMN, column);
+        set(&mut record, REST, rest as u16);
+        Printed { record, ..due }.is(&record)
+    };
+    assert!(gives_back(1, 460) && due.is(&due.record));
+    for (column, rest) in [
+        (1, -460),
+        (1, 459),
+        (1, 663),
+        (1, 257),
+        (0, 4_060),
+        (2, -3_140),
+    ] {
+        assert!(!gives_back(column, rest), "{column} {rest}");
+    }
 }
 
 #[test]

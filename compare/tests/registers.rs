@@ -84,7 +84,13 @@ fn numbers_that_stand_for_no_plain_state() {
         "image_byte",
         "image_columns",
     ];
-    let derived = ["dots_down", "style", "advance", "column_width", "advance_dots"];
+    let derived = [
+        "dots_down",
+        "style",
+        "advance",
+        "column_width",
+        "advance_dots",
+    ];
     assert_eq!(flags.len(), 16 + 6, "{flags:?}");
     for name in flags
         .iter()

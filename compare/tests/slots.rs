@@ -2,10 +2,10 @@
 //! questions told as text.
 
 use compare::random::Random;
+use compare::record::RECORD_SIZE;
 use compare::slots::generate::{made_up, of_card, question};
 use compare::slots::shortest::shortest;
 use compare::slots::{answers, difference, plain, text, Question, Tally};
-use ierbulosc::RECORD_SIZE;
 use plain_reader::LIST_REFUSED;
 use std::collections::BTreeMap;
 
@@ -324,9 +324,9 @@ fn shrinking_keeps_what_fails() {
     let short = shortest(&long, &shielded);
     assert!(shielded(&short));
     let expected = "slot 0 65535\n\
-        5458000000000000000000000000\n\
-        4c4e000000000000000000000000\n\
-        434c000000000000000000000000\n";
+        54580000000000000000000000000000\n\
+        4c4e0000000000000000000000000000\n\
+        434c0000000000000000000000000000\n";
     assert_eq!(text::text(&short), expected);
     let refused = |question: &Question| plain(question).number == LIST_REFUSED;
     let long = (0..)

@@ -104,12 +104,12 @@ fn a_short_run() {
 #[test]
 fn a_question_replayed() {
     let file = concat!(env!("CARGO_TARGET_TMPDIR"), "/question");
-    let records = "5458b00400003400000000006801\n4c4e000032000000000000000000\n";
+    let records = "5458b004000034000000000068010000\n4c4e0000320000000000000000000000\n";
     std::fs::write(file, format!("slot 1100 1300\n{records}")).unwrap();
     let output = compare(&["--replay", file]);
     let lines = String::from_utf8_lossy(&output.stdout);
     assert_eq!(output.status.code(), Some(0), "{lines}");
-    let found = "number 0, part of 14 bytes from byte 0";
+    let found = "number 0, part of 16 bytes from byte 0";
     let expected = format!("plain:  {found}\nproved: {found}\nno difference\n");
     assert_eq!(lines, expected);
     std::fs::write(file, format!("slot 1100\n{records}")).unwrap();

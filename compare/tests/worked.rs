@@ -1,7 +1,8 @@
 //! The worked cases (cases/), as the program `worked` is given them, through
 //! the library and through both plain readers.
 
-use ierbulosc::{Settings, State, RECORD_SIZE};
+use compare::record::RECORD_SIZE;
+use ierbulosc::{Settings, State};
 use std::fmt::Write;
 
 const INPUT: &[u8] = include_bytes!("../../crates/worked/stdin");

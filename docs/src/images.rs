@@ -2,7 +2,7 @@
 
 use crate::reading::Reading;
 use crate::records::{Reason, Record};
-use crate::state::Waiting;
+use crate::state::{Rounded, Waiting};
 
 /// A mode of image data: the units of a column, and its bytes.
 #[derive(Clone, Copy, Default)]
@@ -124,14 +124,15 @@ impl Reading<'_> {
 
     /// IM on the present row, in this dot column: this byte of an image column.
     #[inline(always)]
-    pub fn image_record(&self, column: u16, byte: u8, mode: Mode, nth: u8) -> Record {
+    pub fn image_record(&self, column: Rounded, byte: u8, mode: Mode, nth: u8) -> Record {
         Record {
             mark: *b"IM",
-            column,
+            column: column.dot,
             row: self.row,
             byte,
             font: mode.font(nth),
             advance: mode.units as u16,
+            rest: column.rest,
             ..Record::default()
         }
     }

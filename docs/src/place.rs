@@ -2,7 +2,7 @@
 
 use crate::reading::Reading;
 use crate::records::{Reason, Record, NEW_TOP};
-use crate::state::{State, LONGEST_PAGE, SHORTEST_PAGE};
+use crate::state::{Rounded, State, LONGEST_PAGE, SHORTEST_PAGE};
 
 impl Reading<'_> {
     /// A letter: placed, placed after an automatic line, or passed over.
@@ -40,16 +40,17 @@ impl Reading<'_> {
     }
 
     /// TX on the present row, in this column.
-    pub fn letter_record(&self, column: u16, letter: u8) -> Record {
+    pub fn letter_record(&self, column: Rounded, letter: u8) -> Record {
         Record {
             mark: *b"TX",
-            column,
+            column: column.dot,
             row: self.row,
             byte: letter,
             font: self.state.font,
             style: self.style,
             country: self.state.country,
             advance: self.advance as u16,
+            rest: column.rest,
         }
     }
 

@@ -1,7 +1,9 @@
 //! The records: of one size, low byte first.
 
+use crate::state::Rounded;
+
 /// The bytes of a record.
-pub const RECORD_SIZE: usize = 14;
+pub const RECORD_SIZE: usize = 16;
 
 /// An LN's byte for a new top, where others have the pages turned.
 pub const NEW_TOP: u8 = 255;
@@ -27,9 +29,10 @@ pub struct Record {
     pub style: u16,
     pub country: u8,
     pub advance: u16,
+    pub rest: i16,
 }
 
-/// A record as two numbers, low byte first: its bytes 0 to 7, and 8 to 13.
+/// A record as two numbers, low byte first: its bytes 0 to 7, and 8 to 15.
 #[derive(Clone, Copy)]
 pub struct Words {
     head: u64,
@@ -47,18 +50,19 @@ impl Record {
                 | u64::from(self.font) << 56,
             tail: u64::from(self.style)
                 | u64::from(self.country) << 16
-                | u64::from(self.advance) << 32,
+                | u64::from(self.advance) << 32
+                | u64::from(self.rest as u16) << 48,
         }
     }
 }
 
 impl Words {
-    /// With a column and a byte in place of 0.
+    /// With a column, its rest and a byte in place of 0.
     #[inline(always)]
-    pub fn with(self, column: u16, byte: u8) -> Words {
+    pub fn with(self, column: Rounded, byte: u8) -> Words {
         Words {
-            head: self.head | u64::from(column) << 16 | u64::from(byte) << 48,
-            ..self
+            head: self.head | u64::from(column.dot) << 16 | u64::from(byte) << 48,
+            tail: self.tail | u64::from(column.rest as u16) << 48,
         }
     }
 
@@ -66,7 +70,7 @@ impl Words {
     pub fn bytes(self) -> [u8; RECORD_SIZE] {
         let mut bytes = [0; RECORD_SIZE];
         bytes[..8].copy_from_slice(&self.head.to_le_bytes());
-        bytes[8..].copy_from_slice(&self.tail.to_le_bytes()[..6]);
+        bytes[8..].copy_from_slice(&self.tail.to_le_bytes());
         bytes
     }
 }

@@ -3,7 +3,7 @@
 
 use crate::reading::Reading;
 use crate::records::{Words, RECORD_SIZE};
-use crate::state::{dot_parts, whole_dots, Waiting};
+use crate::state::{dot_parts, rounded, Rounded, Waiting};
 use crate::ROOM_FOR_A_BYTE;
 use std::array::from_fn;
 
@@ -56,13 +56,13 @@ impl Reading<'_> {
         let resolution = self.state.resolution;
         let (last, step) = (dot_parts(last, resolution), self.advance * resolution);
         let mut parts = dot_parts(self.state.across, resolution);
-        let words = self.letter_record(0, 0).words();
+        let words = self.letter_record(Rounded::default(), 0).words();
         let mut count = 0;
         for (&byte, out) in input.iter().zip(self.records.places(1)) {
             if parts > last || !self.state.is_letter(byte) {
                 break;
             }
-            out.copy_from_slice(&words.with(whole_dots(parts), byte).bytes());
+            out.copy_from_slice(&words.with(rounded(parts), byte).bytes());
             parts += step;
             count += 1;
         }
@@ -94,14 +94,15 @@ impl Reading<'_> {
         let resolution = self.state.resolution;
         let step = self.mode.units * resolution;
         let mut parts = dot_parts(self.state.across, resolution);
+        let none = Rounded::default();
         let words: [Words; BYTES] =
-            from_fn(|at| self.image_record(0, 0, self.mode, at as u8 + 1).words());
+            from_fn(|at| self.image_record(none, 0, self.mode, at as u8 + 1).words());
         let mut count = 0;
         for (bytes, out) in columns.zip(self.records.places(BYTES)) {
-            let dots = whole_dots(parts);
+            let column = rounded(parts);
             let records = out.chunks_exact_mut(RECORD_SIZE);
             for ((&byte, words), record) in bytes.iter().zip(&words).zip(records) {
-                record.copy_from_slice(&words.with(dots, byte).bytes());
+                record.copy_from_slice(&words.with(column, byte).bytes());
             }
             parts += step;
             count += 1;

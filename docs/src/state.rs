@@ -274,14 +274,15 @@ impl State {
             | u16::from(self.download_set) << 13
     }
 
-    /// The dot column of the place across.
-    pub(crate) fn column(&self) -> u16 {
-        dot(self.across, self.resolution)
+    /// The dot column of the place across, and its rest.
+    pub(crate) fn column(&self) -> Rounded {
+        rounded(dot_parts(self.across, self.resolution))
     }
 
     /// The dot row of the place down.
     pub(crate) fn row(&self) -> u16 {
-        dot(self.down, if self.resolution == 203 { 200 } else { 300 })
+        let per_inch = if self.resolution == 203 { 200 } else { 300 };
+        rounded(dot_parts(self.down, per_inch)).dot
     }
 }
 
@@ -294,16 +295,24 @@ fn every_eight_columns() -> Stops {
     stops
 }
 
-/// The rounding rule, from units to dots.
-fn dot(units: u32, per_inch: u32) -> u16 {
-    whole_dots(dot_parts(units, per_inch))
+/// A length in dots: the nearest dot, and by how much it falls short of the
+/// length, in parts of a dot, of which it has 3,600: -1,800 to 1,799.
+#[derive(Clone, Copy, Default)]
+pub(crate) struct Rounded {
+    pub(crate) dot: u16,
+    pub(crate) rest: i16,
 }
 
-/// So many units in parts of a dot, of which it has 3,600, and half a dot.
+/// So many units in parts of a dot, and half a dot.
 pub(crate) fn dot_parts(units: u32, per_inch: u32) -> u32 {
     units * per_inch + 1_800
 }
 
-pub(crate) fn whole_dots(parts: u32) -> u16 {
-    (parts / 3_600) as u16
+/// The rounding rule, from such parts to dots.
+#[inline(always)]
+pub(crate) fn rounded(parts: u32) -> Rounded {
+    Rounded {
+        dot: (parts / 3_600) as u16,
+        rest: (parts % 3_600) as i16 - 1_800,
+    }
 }

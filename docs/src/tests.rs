@@ -25,6 +25,7 @@ struct Seen {
     style: u16,
     country: u8,
     advance: u16,
+    rest: i16,
 }
 
 const NONE: Seen = Seen {
@@ -36,6 +37,7 @@ const NONE: Seen = Seen {
     style: 0,
     country: 0,
     advance: 0,
+    rest: 0,
 };
 
 fn no(byte: u8, reason: u16) -> Seen {
@@ -81,6 +83,18 @@ fn im(byte: u8, column: u16, row: u16, units: u16) -> Seen {
     }
 }
 
+/// A record with this rest.
+fn off(rest: i16, seen: Seen) -> Seen {
+    Seen { rest, ..seen }
+}
+
+/// A record with the rest of its column at 300 dots, where it is to stand so
+/// many units from the left.
+fn exactly(units: u32, seen: Seen) -> Seen {
+    let rest = 300 * i64::from(units) - 3_600 * i64::from(seen.column);
+    off(rest.try_into().unwrap(), seen)
+}
+
 fn apart(record: &[u8]) -> Seen {
     let word = |at: usize| u16::from_le_bytes([record[at], record[at + 1]]);
     assert_eq!(record[11], 0);
@@ -93,6 +107,7 @@ fn apart(record: &[u8]) -> Seen {
         style: word(8),
         country: record[10],
         advance: word(12),
+        rest: word(14) as i16,
     }
 }
 

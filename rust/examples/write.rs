@@ -1,12 +1,12 @@
 //! Writes a card: two lines of a heading and a state, their letters at places
 //! in units of 1/3600 inch. Then reads it back in pieces of seven bytes and
-//! shows each letter at its dots.
+//! shows each letter at its dots, and its exact place across again.
 //!
 //! ```text
 //! write [DOTS]     at 300 dots to the inch, or 203
 //! ```
 
-use ierbulosc::{card_room, records, write, Answer, Letter, Record, Settings, State, ROOM};
+use ierbulosc::{card_room, place, records, write, Answer, Letter, Record, Settings, State, ROOM};
 use std::process::ExitCode;
 
 /// The bytes of the card to a call.
@@ -45,18 +45,26 @@ fn main() -> ExitCode {
             return ExitCode::FAILURE;
         }
         for record in records(&out[..report.written]) {
-            show(record);
+            show(record, state.dots_across);
         }
     }
     ExitCode::SUCCESS
 }
 
-/// Shows a letter.
-fn show(record: Record) {
+/// Shows a letter, at so many dots to the inch across.
+fn show(record: Record, dots: u32) {
     match record {
         Record::Tx {
-            column, row, byte, ..
-        } => println!("{} at column {column}, row {row}", char::from(byte)),
+            column,
+            row,
+            byte,
+            rest,
+            ..
+        } => {
+            let across = place(column, rest, dots);
+            let letter = char::from(byte);
+            println!("{letter} at column {column}, row {row}, {across} units across");
+        }
         Record::Ln { .. } => {}
         _ => println!("a record that no card gives"),
     }

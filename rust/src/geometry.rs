@@ -19,6 +19,19 @@ pub const fn dot(units: u32, dots: u32) -> u32 {
     (units * dots + 1_800) / 3_600
 }
 
+/// The exact place across of a letter or an image byte, in units, from the dot
+/// column and the rest of its record, at so many dots to the inch across.
+///
+/// ```
+/// use ierbulosc::place;
+///
+/// assert_eq!(place(20, 1_080, 203), 360);
+/// assert_eq!(place(41, -1_440, 203), 720);
+/// ```
+pub const fn place(column: u16, rest: i16, dots: u32) -> u32 {
+    (3_600 * column as i32 + rest as i32) as u32 / dots
+}
+
 /// How far below its row a dot of an image byte begins, in units: of dots 0 to
 /// 7 from the top, which is the highest bit, of a byte with this part of its
 /// column (see [`Record::Im`](crate::Record::Im)).

@@ -4,10 +4,10 @@ use core::iter::FusedIterator;
 use core::slice::ChunksExact;
 
 /// The bytes of a record: mark (2 bytes), column (2), row (2), byte, font,
-/// style (2), country, zero, advance (2). Numbers of two bytes have the low
-/// byte first. An LN has its pages where others have the byte, and a NO its
-/// reason in place of a style.
-pub const RECORD_SIZE: usize = 14;
+/// style (2), country, zero, advance (2), rest (2, signed). Numbers of two
+/// bytes have the low byte first. An LN has its pages where others have the
+/// byte, and a NO its reason in place of a style.
+pub const RECORD_SIZE: usize = 16;
 
 /// The pages of an [`Record::Ln`] that are none: the page begins anew, at its
 /// top (ESC C, ESC @).
@@ -27,7 +27,7 @@ pub const NO_FIT: u8 = 4;
 pub const NO_STOP: u8 = 5;
 
 /// What a call has to say of the page. Columns and rows are in dots, advances
-/// in units of 1/3600 inch.
+/// in units of 1/3600 inch, rests in 1/3600 dot.
 #[derive(Clone, Copy, PartialEq, Eq, Debug)]
 pub enum Record {
     /// A letter.
@@ -45,6 +45,9 @@ pub enum Record {
         /// The ESC R number.
         country: u8,
         advance: u16,
+        /// How far the exact place is off the column, -1,800 to 1,799;
+        /// [`place`](crate::place) gives that place.
+        rest: i16,
     },
     /// A byte of image data.
     Im {
@@ -56,6 +59,9 @@ pub enum Record {
         part: u8,
         /// The width of its column, in each of its bytes.
         advance: u16,
+        /// How far the exact place is off the column, -1,800 to 1,799;
+        /// [`place`](crate::place) gives that place.
+        rest: i16,
     },
     /// A line fed or a page turned.
     Ln {
@@ -82,7 +88,7 @@ impl Record {
     pub fn from_bytes(bytes: &[u8; RECORD_SIZE]) -> Option<Record> {
         let two = |at: usize| u16::from_le_bytes([bytes[at], bytes[at + 1]]);
         let (column, row, byte) = (two(2), two(4), bytes[6]);
-        let (style, advance) = (two(8), two(12));
+        let (style, advance, rest) = (two(8), two(12), two(14) as i16);
         match [bytes[0], bytes[1]] {
             [b'T', b'X'] => Some(Record::Tx {
                 column,
@@ -92,6 +98,7 @@ impl Record {
                 style,
                 country: bytes[10],
                 advance,
+                rest,
             }),
             [b'I', b'M'] => Some(Record::Im {
                 column,
@@ -99,6 +106,7 @@ impl Record {
                 byte,
                 part: bytes[7],
                 advance,
+                rest,
             }),
             [b'L', b'N'] => Some(Record::Ln { row, pages: byte }),
             [b'C', b'L'] => Some(Record::Cl),

@@ -510,12 +510,12 @@ fn json() {
     let said = "card: passed over: 1 unlisted (first at byte 22)\n";
     let tx = "\"record\":\"TX\",\"column\":";
     let lines = [
-        &format!("{{{tx}0,\"row\":0,\"byte\":91,\"font\":0,\"style\":0,\"country\":2,\"advance\":360,\"character\":\"Ä\"}}"),
-        &format!("{{{tx}30,\"row\":0,\"byte\":34,\"font\":0,\"style\":0,\"country\":2,\"advance\":360,\"character\":\"\\\"\"}}"),
-        "{\"record\":\"IM\",\"column\":60,\"row\":0,\"byte\":128,\"part\":0,\"advance\":60}",
-        "{\"record\":\"IM\",\"column\":65,\"row\":0,\"byte\":1,\"part\":1,\"advance\":20}",
-        "{\"record\":\"IM\",\"column\":65,\"row\":0,\"byte\":2,\"part\":2,\"advance\":20}",
-        "{\"record\":\"IM\",\"column\":65,\"row\":0,\"byte\":3,\"part\":3,\"advance\":20}",
+        &format!("{{{tx}0,\"row\":0,\"byte\":91,\"font\":0,\"style\":0,\"country\":2,\"advance\":360,\"rest\":0,\"character\":\"Ä\"}}"),
+        &format!("{{{tx}30,\"row\":0,\"byte\":34,\"font\":0,\"style\":0,\"country\":2,\"advance\":360,\"rest\":0,\"character\":\"\\\"\"}}"),
+        "{\"record\":\"IM\",\"column\":60,\"row\":0,\"byte\":128,\"part\":0,\"advance\":60,\"rest\":0}",
+        "{\"record\":\"IM\",\"column\":65,\"row\":0,\"byte\":1,\"part\":1,\"advance\":20,\"rest\":0}",
+        "{\"record\":\"IM\",\"column\":65,\"row\":0,\"byte\":2,\"part\":2,\"advance\":20,\"rest\":0}",
+        "{\"record\":\"IM\",\"column\":65,\"row\":0,\"byte\":3,\"part\":3,\"advance\":20,\"rest\":0}",
         "{\"record\":\"LN\",\"row\":50,\"pages\":0}",
         "{\"record\":\"CL\"}",
         "{\"record\":\"NO\",\"byte\":1,\"reason\":1}\n",

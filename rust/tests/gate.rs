@@ -51,6 +51,7 @@ impl Picture {
                 byte,
                 part,
                 advance,
+                ..
             } = record
             else {
                 continue;

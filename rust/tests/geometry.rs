@@ -1,7 +1,7 @@
 //! What the cover and the header say of a record's style and place holds of
 //! what the library writes.
 
-use ierbulosc::{dot, records, style, Answer, Record, Settings, State, ROOM};
+use ierbulosc::{dot, place, records, style, Answer, Record, Settings, State, ROOM};
 
 /// The records of an input, and the state after it.
 fn read(resolution: u32, input: &[u8]) -> (Vec<Record>, State) {
@@ -44,23 +44,27 @@ fn style_bits_by_name() {
 }
 
 /// A place in units, as the state has it before a letter, rounds to the
-/// letter's dots, at stops too.
+/// letter's dots, at stops too; the letter's column and rest give it back.
 #[test]
 fn places_round_to_dots() {
     for resolution in [300, 203] {
-        for place in (0..1_100).step_by(3) {
-            let [low, high] = u16::to_le_bytes(place / 3);
-            let down = (place % 250) as u8;
+        for number in (0..1_100).step_by(3) {
+            let [low, high] = u16::to_le_bytes(number / 3);
+            let down = (number % 250) as u8;
             let go = [
                 0x1B, b'$', low, high, 0x1B, b'\\', down, 0, 0x1B, b'J', down,
             ];
             let (_, before) = read(resolution, &go);
             let (list, _) = read(resolution, &[&go[..], b"A"].concat());
-            let Some(&Record::Tx { column, row, .. }) = list.last() else {
+            let Some(&Record::Tx {
+                column, row, rest, ..
+            }) = list.last()
+            else {
                 panic!("{list:?}");
             };
             assert_eq!(u32::from(column), dot(before.across, before.dots_across));
             assert_eq!(u32::from(row), dot(before.down, before.dots_down));
+            assert_eq!(place(column, rest, before.dots_across), before.across);
         }
         for width in [b"\x1BP", b"\x1BM", b"\x1Bg"] {
             let (list, state) = read(resolution, &[width, &b"\x1Bl\x02\tA\tB"[..]].concat());

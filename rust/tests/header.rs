@@ -480,12 +480,15 @@ fn filled(field: &str, bytes: &[u8; RECORD_SIZE]) -> u16 {
         Some(at) => at.parse().unwrap(),
         None => 0,
     };
+    assert_eq!(line.contains("escp_signed"), field == "rest");
     u16::from_le_bytes([bytes[at], bytes[at + 1]])
 }
 
 #[test]
 fn records_are_filled_as_in_the_header() {
+    // the last one makes the rest less than 0
     let mut bytes = std::array::from_fn(|at| 0x21 + 7 * at as u8);
+    assert!(bytes[RECORD_SIZE - 1] >= 0x80);
     let mut of = |mark: &[u8; 2]| {
         bytes[..2].copy_from_slice(mark);
         assert_eq!(usize::from(filled("mark", &bytes)), self::mark(mark));
@@ -501,6 +504,7 @@ fn records_are_filled_as_in_the_header() {
         style: filled("style", &b),
         country: one_byte("country", &b),
         advance: filled("advance", &b),
+        rest: filled("rest", &b) as i16,
     };
     assert_eq!(tx, expected);
     let (b, im) = of(b"IM");
@@ -510,6 +514,7 @@ fn records_are_filled_as_in_the_header() {
         byte: one_byte("byte", &b),
         part: one_byte("font", &b),
         advance: filled("advance", &b),
+        rest: filled("rest", &b) as i16,
     };
     assert_eq!(im, expected);
     let (b, ln) = of(b"LN");
@@ -519,7 +524,7 @@ fn records_are_filled_as_in_the_header() {
     let (b, no) = of(b"NO");
     let (byte, reason) = (one_byte("byte", &b), filled("style", &b) as u8);
     assert_eq!(no, Record::No { byte, reason });
-    assert_eq!(c_struct("escp_record").len(), 10);
+    assert_eq!(c_struct("escp_record").len(), 11);
 }
 
 /// The byte that the header's function lays down at a place: its lines are

@@ -1,7 +1,7 @@
 //! The functions that the C header has whole, compiled and run, give what those
 //! of the cover give. It wants gcc; without it, it says so and tries nothing.
 
-use ierbulosc::{dot, dot_below, Letter, Record, RECORD_SIZE, VERSION};
+use ierbulosc::{dot, dot_below, place, Letter, Record, RECORD_SIZE, VERSION};
 use std::path::Path;
 use std::process::Command;
 
@@ -33,28 +33,30 @@ fn fields(mark: &[u8; 2]) -> String {
     let two = |at: usize| u16::from_le_bytes([bytes[at], bytes[at + 1]]);
     let record = Record::from_bytes(&bytes).unwrap();
     // What the mark does not name keeps what stands there.
-    let mut numbers = [
-        two(0),
-        two(2),
-        two(4),
+    let mut numbers: [i32; 11] = [
+        two(0).into(),
+        two(2).into(),
+        two(4).into(),
         bytes[6].into(),
         bytes[7].into(),
-        two(8),
+        two(8).into(),
         bytes[10].into(),
-        two(12),
+        two(12).into(),
+        (two(14) as i16).into(),
         0,
         0,
     ];
     match record {
+        Record::Tx { rest, .. } | Record::Im { rest, .. } => numbers[8] = rest.into(),
         Record::Ln { row, pages } => {
-            numbers[2] = row;
-            (numbers[3], numbers[8]) = (0, pages.into());
+            numbers[2] = row.into();
+            (numbers[3], numbers[9]) = (0, pages.into());
         }
         Record::No { byte, reason } => {
             numbers[3] = byte.into();
-            (numbers[5], numbers[9]) = (0, reason.into());
+            (numbers[5], numbers[10]) = (0, reason.into());
         }
-        _ => {}
+        Record::Cl => {}
     }
     numbers.map(|number| number.to_string()).join(" ")
 }
@@ -81,6 +83,18 @@ fn functions_of_the_header() {
     }
     let line = format!("dot {}", dot(14_000_000, 300));
     assert_eq!(lines.next(), Some(line.as_str()));
+    for dots in [300, 203] {
+        for column in (1..=u16::MAX).step_by(97) {
+            for rest in (-1_800..1_800).step_by(37) {
+                let line = format!("place {}", place(column, rest, dots));
+                assert_eq!(
+                    lines.next(),
+                    Some(line.as_str()),
+                    "{column} {rest} at {dots}"
+                );
+            }
+        }
+    }
     for mark in [b"TX", b"IM", b"LN", b"CL", b"NO"] {
         let line = format!("record {}", fields(mark));
         assert_eq!(lines.next(), Some(line.as_str()));

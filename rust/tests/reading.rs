@@ -1,9 +1,9 @@
 //! The library through the safe cover.
 
 use ierbulosc::{
-    records, Answer, Record, Settings, State, Stops, COLUMNS, FIRST_ARGUMENT, IMAGE_DATA, NEW_TOP,
-    NOTHING, NOT_ALLOWED, NO_FIT, RECORD_SIZE, REGISTERS, ROOM, SECOND_ARGUMENT, STOP_LIST,
-    THIRD_ARGUMENT, UNLISTED,
+    place, records, Answer, Record, Settings, State, Stops, COLUMNS, FIRST_ARGUMENT, IMAGE_DATA,
+    NEW_TOP, NOTHING, NOT_ALLOWED, NO_FIT, RECORD_SIZE, REGISTERS, ROOM, SECOND_ARGUMENT,
+    STOP_LIST, THIRD_ARGUMENT, UNLISTED,
 };
 
 const FILL: u8 = 0xE5;
@@ -82,7 +82,7 @@ fn records_byte_for_byte() {
     assert_eq!(came, (Answer::Done, 2, 2 * RECORD_SIZE));
     let (written, rest) = out.split_at(report.written);
     let hex: String = written.iter().map(|byte| format!("{byte:02x}")).collect();
-    let expected = "54580000000041000000000068014c4e000032000000000000000000";
+    let expected = "545800000000410000000000680100004c4e0000320000000000000000000000";
     assert_eq!(hex, expected);
     assert!(rest.iter().all(|&byte| byte == FILL));
     assert_eq!((state.across, state.down), (0, 600));
@@ -104,6 +104,7 @@ fn records_by_name() {
         style: 0x41,
         country: 13,
         advance: 720,
+        rest: 0,
     };
     let image = Record::Im {
         column: 0,
@@ -111,6 +112,7 @@ fn records_by_name() {
         byte: 0x55,
         part: 0,
         advance: 60,
+        rest: 0,
     };
     let passed_over = |byte, reason| Record::No { byte, reason };
     let expected = [
@@ -380,6 +382,7 @@ fn image_bytes_by_name() {
         byte,
         part,
         advance: 60,
+        rest: 0,
     };
     let no = |byte, reason| Record::No { byte, reason };
     let expected = [
@@ -393,6 +396,41 @@ fn image_bytes_by_name() {
     ];
     assert_eq!(came, expected);
     assert_eq!((state.kind, state.across), (NOTHING, 28_800));
+}
+
+/// Dot column and rest of letters and image bytes give their exact places back,
+/// at both resolutions: 360 units apart, and 20.
+#[test]
+fn column_and_rest_give_the_place() {
+    for (resolution, rests) in [
+        (203, [0, 1_080, -1_440, -360, 100, 560]),
+        (300, [0, 0, 0, 0, -1_200, 1_200]),
+    ] {
+        let settings = Settings {
+            resolution,
+            ..Settings::default()
+        };
+        let mut state = State::start(&settings).1;
+        let mut out = [FILL; 30 * ROOM];
+        let input = b"AAA\x1B*\x27\x03\x00\x80\x00\x01\x40\x1B\x02\x01\x02\x03";
+        let report = state.read(input, usize::MAX, &mut out);
+        assert_eq!((report.answer, report.read), (Answer::Done, input.len()));
+        let places = records(&out[..report.written]).filter_map(|record| match record {
+            Record::Tx { column, rest, .. } => Some((column, rest)),
+            Record::Im {
+                column,
+                part: 1,
+                rest,
+                ..
+            } => Some((column, rest)),
+            _ => None,
+        });
+        let (columns, came): (Vec<u16>, Vec<i16>) = places.unzip();
+        assert_eq!(came, rests);
+        let pairs = columns.into_iter().zip(rests);
+        let exact = pairs.map(|(column, rest)| place(column, rest, resolution));
+        assert!(exact.eq([0, 360, 720, 1_080, 1_100, 1_120]));
+    }
 }
 
 #[test]

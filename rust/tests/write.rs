@@ -46,14 +46,17 @@ fn read(card: &[u8], resolution: u32, piece: usize) -> Vec<Record> {
 /// The TX of a letter.
 fn text(letter: Letter, dots_across: u32, dots_down: u32) -> Record {
     let dots = |units: u16, dots: u32| ((u32::from(units) * dots + 1_800) / 3_600) as u16;
+    let column = dots(letter.across(), dots_across);
+    let parts = i64::from(letter.across()) * i64::from(dots_across);
     Record::Tx {
-        column: dots(letter.across(), dots_across),
+        column,
         row: dots(letter.down(), dots_down),
         byte: letter.byte(),
         font: 0,
         style: 0,
         country: 0,
         advance: 360,
+        rest: (parts - 3_600 * i64::from(column)) as i16,
     }
 }
 

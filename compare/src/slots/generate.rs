@@ -5,7 +5,10 @@ use super::Question;
 use crate::calls::room_for;
 use crate::generate::input;
 use crate::random::Random;
-use ierbulosc::{Settings, State, RECORD_SIZE};
+use crate::record::{
+    self, Record, ADVANCE, BYTE, COLUMN, COUNTRY, FONT, RECORD_SIZE, REST, ROW, STYLE,
+};
+use ierbulosc::{Settings, State};
 
 /// Of a hundred questions, those about a card.
 const CARDS: u64 = 10;
@@ -80,8 +83,8 @@ struct Habit {
     marks: [u64; 6],
     /// Of a hundred columns, those in the range.
     inside: u64,
-    /// Of a hundred rows, styles and advances, those that would be columns in
-    /// the range.
+    /// Of a hundred rows, styles, advances and rests, those that would be columns
+    /// in the range.
     alike: u64,
 }
 
@@ -103,7 +106,7 @@ impl Habit {
         }
     }
 
-    fn record(&self, random: &mut Random) -> [u8; RECORD_SIZE] {
+    fn record(&self, random: &mut Random) -> Record {
         let any = random.number().to_le_bytes();
         let mut byte = any[0];
         let mark = match random.weighted(&self.marks) {
@@ -124,15 +127,14 @@ impl Habit {
             true => self.column_inside(random),
             false => self.column_beside(random),
         };
-        let mut record = [0; RECORD_SIZE];
-        record[..2].copy_from_slice(mark);
-        record[2..4].copy_from_slice(&column.to_le_bytes());
-        record[4..6].copy_from_slice(&self.number(random));
-        record[6] = byte;
-        record[7] = any[1];
-        record[8..10].copy_from_slice(&self.number(random));
-        record[10..12].copy_from_slice(&any[2..4]);
-        record[12..14].copy_from_slice(&self.number(random));
+        let mut record = record::marked(*mark);
+        record::set(&mut record, COLUMN, column);
+        record[BYTE] = byte;
+        record[FONT] = any[1];
+        record[COUNTRY..ADVANCE].copy_from_slice(&any[2..4]);
+        for field in [ROW, STYLE, ADVANCE, REST] {
+            record::set(&mut record, field, self.number(random));
+        }
         record
     }
 
@@ -161,13 +163,12 @@ impl Habit {
         }
     }
 
-    /// A row, style or advance.
-    fn number(&self, random: &mut Random) -> [u8; 2] {
-        let number = match random.percent(self.alike) {
+    /// A row, style, advance or rest.
+    fn number(&self, random: &mut Random) -> u16 {
+        match random.percent(self.alike) {
             true => self.column_inside(random),
             false => random.number() as u16,
-        };
-        number.to_le_bytes()
+        }
     }
 }
 
@@ -220,7 +221,7 @@ fn column_of_a_letter(random: &mut Random, records: &[u8]) -> u16 {
         false => letters.len().min(10),
     };
     match letters.get(random.below(newest as u64) as usize) {
-        Some(record) => u16::from_le_bytes([record[2], record[3]]),
+        Some(record) => record::number(record, COLUMN),
         None => random.pick(&[0, 300, 65_535]),
     }
 }

@@ -1,7 +1,7 @@
 //! The shortest list that can be found on which a question still fails.
 
 use super::Question;
-use ierbulosc::RECORD_SIZE;
+use crate::record::RECORD_SIZE;
 
 const TRIES: usize = 20_000;
 

@@ -7,7 +7,7 @@
 //! ```
 
 use super::{Answer, Answers, Question};
-use ierbulosc::RECORD_SIZE;
+use crate::record::RECORD_SIZE;
 use std::fmt::Write;
 
 /// The question as text.

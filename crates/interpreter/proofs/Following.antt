@@ -15,7 +15,7 @@ use Rattle.printer.specs.Settings.{rightOf, acrossOf, advanceOf}
 use Rattle.printer.specs.Performing.{columnMove, columnPart, performAll, recordsAll}
 use Rattle.printer.specs.Deciding.{attempt, letterEvents}
 use Rattle.printer.specs.Steps.{waitFor, stepEvents, stepOf, stepRecords, stateAfter, recordsOver}
-use Rattle.printer.specs.Units.{perInchAcross, rounded}
+use Rattle.printer.specs.Units.{perInchAcross, rounded, restWord}
 use Rattle.printer.specs.Widths.{imageStep, imageBytes}
 use Rattle.printer.specs.declared.commands.ImageMode.{ImageMode}
 use Rattle.printer.specs.declared.commands.Waiting.{Waiting}
@@ -51,11 +51,11 @@ more-read {p} {q} {b} {room} {l} next h e f v =
     }
 
 -- a record's column and byte make no difference to the records placed like it
-pub placed-like : (v : Record) (d x step bytes k : ℕ) (l : List ℕ) → placedAll v d x step bytes k l ≡ placedAll (likeAt v 0 0) d x step bytes k l
+pub placed-like : (v : Record) (d x step bytes k : ℕ) (l : List ℕ) → placedAll v d x step bytes k l ≡ placedAll (likeAt v 0 0 0) d x step bytes k l
 unfolding placedAll
 placed-like v d x step bytes k [] = refl
 placed-like v d x step bytes k (b ∷ l) =
-    ap (λ (r : List Record). likeAt (ofPart v k) (rounded d x) b ∷ r)
+    ap (λ (r : List Record). likeAt (ofPart v k) (rounded d x) (restWord d x) b ∷ r)
     (placed-like v d (pick (eqb k bytes) (x + step) x) step bytes (pick (eqb k bytes) 1 (suc k)) l)
 
 -- Letters
@@ -72,7 +72,7 @@ module _ (p : Printer) (b : ℕ) (e : p .waiting ≡ Waiting.Nothing) (h : isLet
 
 -- TX but for its column and its byte
 abbrev pub letterLike : Printer → Record
-letterLike p = likeAt (letterRecord (p .settings) (p .place) 0 (advanceOf (p .settings))) 0 0
+letterLike p = likeAt (letterRecord (p .settings) (p .place) 0 (advanceOf (p .settings))) 0 0 0
 
 pub letters-read : (l : List ℕ) (p : Printer) (room : ℕ) → p .waiting ≡ Waiting.Nothing → Letters (p .settings .upperprints) l
     → acrossOf (p .place) + length l * advanceOf (p .settings) ≤ rightOf (p .settings) → recordSize * length l + recordSize ≤ room
@@ -103,7 +103,7 @@ module _ (p : Printer) (m : ImageMode) (k n b : ℕ) (e : p .waiting ≡ Waiting
 
 -- IM of a column's first byte, but for its column and its byte
 abbrev pub imageLike : Printer → ImageMode → Record
-imageLike p m = likeAt (imageRecord (p .settings) (p .place) 0 (columnPart m 1) (imageStep m)) 0 0
+imageLike p m = likeAt (imageRecord (p .settings) (p .place) 0 (columnPart m 1) (imageStep m)) 0 0 0
 
 pub some-columns : (m : ImageMode) (k n : ℕ) → 1 ≤ n → columnsWait m k n ≡ Waiting.ImageData m k n
 some-columns m k n h = rw (ne-eqb n 0 (λ e. omega arith))
@@ -149,7 +149,7 @@ columns-read (b ∷ l) p m k n done part room e h s g =
     by-test
     (λ (t : Bool). eqb k c ≡ t
     → AreRead p (b ∷ l) room (columnsDone p m n done part)
-    (likeAt (ofPart (imageLike p m) k) (rounded (perInchAcross (p .settings .setup .resolution)) x) b
+    (likeAt (ofPart (imageLike p m) k) (rounded (perInchAcross (p .settings .setup .resolution)) x) (restWord (perInchAcross (p .settings .setup .resolution)) x) b
     ∷ placedAll (imageLike p m) (perInchAcross (p .settings .setup .resolution)) (pick t (x + w) x) w c (pick t 1 (suc k)) l))
     (eqb k c)
     (λ u v.

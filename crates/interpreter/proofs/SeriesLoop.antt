@@ -13,12 +13,12 @@ use borrow.Author.Tests.{eqb-true, eqb-false}
 use Rattle.printer.specs.Tools.{pick}
 use Rattle.printer.specs.Records.{recordSize, encodedAll}
 use Rattle.printer.specs.declared.records.Record.{Record}
-use Rattle.printer.specs.Units.{rounded}
+use Rattle.printer.specs.Units.{rounded, restWord}
 use Rattle.printer.proofs.Choices.{each-append}
 use Rattle.printer.proofs.CodeLaws.{product}
 use Rattle.measures.specs.declared.rounding.Exact.{Exact}
-use Rattle.measures.specs.Exact.{packed, carried}
-use Rattle.measures.proofs.Exact.{packed-dots, packed-sum}
+use Rattle.measures.specs.Exact.{packed, carried, dotOf, restOf}
+use Rattle.measures.proofs.Exact.{packed-dot, packed-rest, packed-sum}
 use Rattle.registers.specs.Register.{acrossAt}
 use Rattle.framing.specs.Letters.{printsFrom}
 use Rattle.interpreter.specs.Output.{Written}
@@ -92,17 +92,17 @@ after-column {done} {bytes = bytes} s e =
 -- one byte more
 placed-more : (v : Record) (d step bytes : ℕ) (l : List ℕ) (x k done part b : ℕ) → (1 ≤ k) × (k ≤ bytes) → Reached done part (length l) bytes k
     → placedAll v d x step bytes k (l ++ (b ∷ []))
-    ≡ placedAll v d x step bytes k l ++ (likeAt (ofPart v part) (rounded d (x + done * step)) b ∷ [])
+    ≡ placedAll v d x step bytes k l ++ (likeAt (ofPart v part) (rounded d (x + done * step)) (restWord d (x + done * step)) b ∷ [])
 unfolding placedAll
 placed-more v d step bytes [] x k done part b h s =
     let e : done ≡ 0 = none-done s refl (h .1) in
     let f : part ≡ k = omega (arith, s .counted, rw (e, zero-mul) at (s .counted)) in
     rw (e, f, zero-mul, add-zero)
 placed-more v d step bytes (a ∷ l) x k done part b h s =
-    ap (λ (r : List Record). likeAt (ofPart v k) (rounded d x) a ∷ r)
+    ap (λ (r : List Record). likeAt (ofPart v k) (rounded d x) (restWord d x) a ∷ r)
     (by-test
     (λ (t : Bool). placedAll v d (pick t (x + step) x) step bytes (pick t 1 (suc k)) (l ++ (b ∷ []))
-    ≡ placedAll v d (pick t (x + step) x) step bytes (pick t 1 (suc k)) l ++ (likeAt (ofPart v part) (rounded d (x + done * step)) b ∷ []))
+    ≡ placedAll v d (pick t (x + step) x) step bytes (pick t 1 (suc k)) l ++ (likeAt (ofPart v part) (rounded d (x + done * step)) (restWord d (x + done * step)) b ∷ []))
     (eqb k bytes)
     (λ e. let q = after-column s (eqb-true k bytes e) in
     let p : x + step + (done - 1) * step ≡ x + done * step = omega (arith, one-less done step (q .1)) in
@@ -166,12 +166,15 @@ module _
   line-so-far : x + s .done * step ≤ 28800
   line-so-far = done-within (g .reached) (shorter n (g .within)) (b .from)
 
-  -- the place in 1/3600 dot, and its dots
+  -- the place in 1/3600 dot, its dot and its rest
   so-far : (x + s .done * step) * d + 1800 ≤ 8641800
   so-far = omega (arith, on-line (s .done) line-so-far)
 
-  column : s .exact .0 % 65536 ≡ rounded d (x + s .done * step)
-  column = rw (g .place) (packed-dots ((x + s .done * step) * d + 1800) (omega (arith, so-far)))
+  column : dotOf (s .exact .0) ≡ rounded d (x + s .done * step)
+  column = rw (g .place) (packed-dot ((x + s .done * step) * d + 1800) (omega (arith, so-far)))
+
+  rest : restOf (s .exact .0) ≡ restWord d (x + s .done * step)
+  rest = rw (g .place) (packed-rest d (x + s .done * step) (omega (arith, so-far)))
 
   -- so few columns are done
   pub few : s .done ≤ 28800
@@ -203,7 +206,7 @@ module _
         (λ _ _. g .place) after
 
     pub goes-on : {r : Record} {out′ : List ℕ} → printsFrom from (getD input n 0) ≡ true
-        → r ≡ likeAt (ofPart v (s .part)) (s .exact .0 % 65536) (getD input n 0) → Written out at (r ∷ []) (at + recordSize) out′
+        → r ≡ likeAt (ofPart v (s .part)) (dotOf (s .exact .0)) (restOf (s .exact .0)) (getD input n 0) → Written out at (r ∷ []) (at + recordSize) out′
         → SoFar v from d x step bytes k input out₀ out′ (spotAfter s by bytes) (n + 1) (at + recordSize)
     goes-on {r} e q w =
         let c : length (take n input) ≡ n = length-take-le n input (g .within) in
@@ -214,7 +217,7 @@ module _
           written = omega (arith, g .written);
           printed = rw next (each-append (λ b. printsFrom from b ≡ true) (take n input) (getD input n 0 ∷ []) (g .printed) (e, tt));
           wrote =
-              rw (next, placed-more v d step bytes (take n input) x k (s .done) (s .part) (getD input n 0) (b .from) (rw c (g .reached)), ← column, ← q)
+              rw (next, placed-more v d step bytes (take n input) x k (s .done) (s .part) (getD input n 0) (b .from) (rw c (g .reached)), ← rest, ← column, ← q)
               (more (g .wrote) fits w);
         }
 

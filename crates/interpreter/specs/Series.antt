@@ -7,7 +7,7 @@ use mathlib.Core.List.{List, [], _∷_}
 use lib.Dec.{eqb}
 use lib.ListN.{take, getD, set}
 use Rattle.printer.specs.Tools.{pick, Each}
-use Rattle.printer.specs.Units.{rounded, perInchAcross}
+use Rattle.printer.specs.Units.{rounded, restWord, perInchAcross}
 use Rattle.printer.specs.Records.{recordSize}
 use Rattle.printer.specs.declared.commands.ImageMode.{ImageMode}
 use Rattle.printer.specs.declared.commands.Waiting.{Waiting}
@@ -34,11 +34,12 @@ ofPart v k =
       style = v .style;
       country = v .country;
       advance = v .advance;
+      rest = v .rest;
     }
 
--- a record like another, at another column and of another byte
-abbrev pub likeAt : Record → (column byte : ℕ) → Record
-likeAt v column byte =
+-- a record like another, at another column with its rest, and of another byte
+abbrev pub likeAt : Record → (column rest byte : ℕ) → Record
+likeAt v column rest byte =
     record {
       mark = v .mark;
       column = record { 0 = column };
@@ -48,13 +49,14 @@ likeAt v column byte =
       style = v .style;
       country = v .country;
       advance = v .advance;
+      rest = record { 0 = rest };
     }
 
 -- such records for all of some bytes, from the k-th of a column on
 unfoldable pub placedAll : Record → (d across step bytes k : ℕ) → List ℕ → List Record
 placedAll v d x step bytes k [] = []
 placedAll v d x step bytes k (b ∷ l) =
-    likeAt (ofPart v k) (rounded d x) b
+    likeAt (ofPart v k) (rounded d x) (restWord d x) b
     ∷ placedAll v d (pick (eqb k bytes) (x + step) x) step bytes (pick (eqb k bytes) 1 (suc k)) l
 
 -- all of some bytes print

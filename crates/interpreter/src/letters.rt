@@ -49,15 +49,19 @@ pub(crate) fn letter_record(m: &[u32; COUNT], b: u8) -> Record
 {
     let setup = setup_in(m);
     let resolution = setup.resolution;
+    let across = rounding::across(resolution, Units(m[ACROSS]));
+    let column = across.dot;
+    let rest = across.rest;
     Record {
         mark: Mark::Tx,
-        column: rounding::column(resolution, Units(m[ACROSS])),
+        column,
         row: rounding::row(resolution, Units(m[DOWN])),
         byte: b,
         font: (m[FONT] % 256) as u8,
         style: (m[STYLE] % 65536) as u16,
         country: (m[COUNTRY] % 256) as u8,
         advance: Units(m[ADVANCE]),
+        rest,
     }
 }
 
@@ -67,15 +71,19 @@ pub(crate) fn image_record(m: &[u32; COUNT], mode: ImageMode, part: u8, b: u8) -
 {
     let setup = setup_in(m);
     let resolution = setup.resolution;
+    let across = rounding::across(resolution, Units(m[ACROSS]));
+    let column = across.dot;
+    let rest = across.rest;
     Record {
         mark: Mark::Im,
-        column: rounding::column(resolution, Units(m[ACROSS])),
+        column,
         row: rounding::row(resolution, Units(m[DOWN])),
         byte: b,
         font: part,
         style: 0,
         country: 0,
         advance: image_step(mode),
+        rest,
     }
 }
 

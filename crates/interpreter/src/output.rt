@@ -4,6 +4,7 @@ use measures::rounding;
 use printer::records::Mark;
 use printer::records::Record;
 use printer::units::Dots;
+use printer::units::Rest;
 use printer::units::Units;
 use registers::COUNT;
 use registers::groups::setup_in;
@@ -41,6 +42,7 @@ pub(crate) fn plain_record(mark: Mark, row: Dots, byte: u8, style: u16) -> Recor
         style,
         country: 0,
         advance: Units(0),
+        rest: Rest(0),
     }
 }
 

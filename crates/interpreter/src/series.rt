@@ -5,7 +5,6 @@ use framing::prints;
 use measures::rounding;
 use measures::rounding::Exact;
 use printer::records::Record;
-use printer::units::Dots;
 use printer::units::Units;
 use registers::ACROSS;
 use registers::COUNT;
@@ -17,30 +16,31 @@ ghost use Prim.Native.Nat.{_+_, _*_, _-_, _≤_, _<_, min};
 ghost use lib.ListN.{length, take, getD};
 ghost use Rattle.printer.specs.Records.{recordSize, roomForByte};
 ghost use Rattle.printer.specs.Units.{perInchAcross};
-ghost use Rattle.measures.specs.Exact.{packed};
+ghost use Rattle.measures.specs.Exact.{packed, dotOf, restOf};
 ghost use Rattle.registers.specs.Register.{acrossAt, rightAt, dotsAcrossAt};
 ghost use Rattle.registers.specs.Groups.{resolutionOf};
 ghost use Rattle.interpreter.specs.Output.{Written};
 ghost use Rattle.interpreter.specs.Series.{AllPrint, OnLine, Placeable, Placing, Reached, Walks, likeAt, ofPart, placedAll, spotAfter};
 ghost use Rattle.interpreter.specs.Taking.{Fits};
 
-// A record like that of a column's first byte, for its k-th: fonts go on by one.
-fn like(v: Record, k: u8, column: Dots, b: u8) -> Record
+// A record like that of a column's first byte, for its k-th, at an exact place: fonts go on by one.
+fn like(v: Record, k: u8, at: Exact, b: u8) -> Record
     requires { ⌜ (1 ≤ k) × (v .font + (k - 1) ≤ 255) ⌝ }
-    ensures { λ r. ⌜ r ≡ likeAt (ofPart v k) (column .0) b ⌝ }
+    ensures { λ r. ⌜ r ≡ likeAt (ofPart v k) (dotOf (at .0)) (restOf (at .0)) b ⌝ }
 {
     let mark = v.mark;
     let row = v.row;
     let advance = v.advance;
     Record {
         mark,
-        column,
+        column: rounding::dot_of(at),
         row,
         byte: b,
         font: v.font + (k - 1),
         style: v.style,
         country: v.country,
         advance,
+        rest: rounding::rest_of(at),
     }
 }
 
@@ -121,8 +121,8 @@ fn place_all(
             break;
         }
         left -= 1;
-        let column = rounding::whole_dots(spot.exact);
-        write_record(&mut *out, at, like(v, spot.part, column, b));
+        let exact = spot.exact;
+        write_record(&mut *out, at, like(v, spot.part, exact, b));
         spot = next_spot(spot, by, bytes);
         n += 1;
         at += Record::SIZE;

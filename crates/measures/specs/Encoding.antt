@@ -7,4 +7,5 @@ use Rattle.printer.specs.declared.records.Record.{Record}
 abbrev pub withLook : Record → (look : ℕ) → List ℕ
 withLook r look =
     markLow (r .mark) ∷ markHigh (r .mark) ∷ low (r .column .0) ∷ high (r .column .0) ∷ low (r .row .0) ∷ high (r .row .0) ∷ r .byte ∷ r .font ∷
-    look % 256 ∷ look / 256 % 256 ∷ look / 65536 % 256 ∷ look / 16777216 % 256 ∷ low (r .advance .0) ∷ high (r .advance .0) ∷ []
+    look % 256 ∷ look / 256 % 256 ∷ look / 65536 % 256 ∷ look / 16777216 % 256 ∷ low (r .advance .0) ∷ high (r .advance .0) ∷
+    low (r .rest .0) ∷ high (r .rest .0) ∷ []

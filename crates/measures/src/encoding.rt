@@ -65,6 +65,7 @@ fn with_look(r: Record, look: Look) -> [u8; Record::SIZE]
     let column = split(r.column.0);
     let row = split(r.row.0);
     let advance = split(r.advance.0);
+    let rest = split(r.rest.0 as u32);
     [
         mark_low(mark),
         mark_high(mark),
@@ -80,6 +81,8 @@ fn with_look(r: Record, look: Look) -> [u8; Record::SIZE]
         (look.0 / 16777216 % 256) as u8,
         advance.low,
         advance.high,
+        rest.low,
+        rest.high,
     ]
 }
 

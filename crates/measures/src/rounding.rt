@@ -1,39 +1,35 @@
 // The rounding rule, the only way from units to dots.
 use printer::units::Dots;
 use printer::units::Resolution;
+use printer::units::Rest;
+use printer::units::Rounded;
 use printer::units::Units;
 ghost use mathlib.Core.Path.{_≡_};
-ghost use Prim.Native.Nat.{_+_, _*_, _/_, _%_, _≤_, _<_};
-ghost use Rattle.printer.specs.Units.{rounded, perInchAcross, perInchDown, columnDots, rowDots};
-ghost use Rattle.measures.specs.Exact.{packed, carried};
+ghost use Prim.Native.Nat.{_+_, _*_, _-_, _/_, _%_, _≤_, _<_};
+ghost use Rattle.printer.specs.Units.{rounded, restWord, rounding, perInchAcross, perInchDown, acrossRounding, rowDots};
+ghost use Rattle.measures.specs.Exact.{packed, carried, dotOf, restOf};
 
-// A length in dots, and what is over of it, in 1/3600 dot, with the half that rounds.
-struct InDots {
-    dots: u32,
-    over: u32,
-}
-
-// What is over, where the dots are known.
-fn with_dots(n: u64, whole: u32) -> InDots
-    requires { ⌜ whole ≡ n / 3600 ⌝ }
-    ensures { λ r. ⌜ (r .dots ≡ n / 3600) × (r .over ≡ n % 3600) ⌝ }
+// The rest, where the dots of so many 1/3600 dots are known.
+fn with_dots(n: u64, whole: u32) -> Rounded
+    requires { ⌜ (whole ≡ (n + 1800) / 3600) × (n ≤ 1288490188500) ⌝ }
+    ensures { λ r. ⌜ (r .dot .0 ≡ (n + 1800) / 3600) × (r .rest .0 ≡ (n + 65536 - 3600 * ((n + 1800) / 3600)) % 65536) ⌝ }
 {
-    InDots {
-        dots: whole,
-        over: (n - 3600 * whole as u64) as u32,
+    Rounded {
+        dot: Dots(whole),
+        rest: Rest(((n + 65536 - 3600 * whole as u64) % 65536) as u16),
     }
 }
 
-// The rounding rule, where `d` dots make an inch. Those of 203 are looked up: there is no division.
-fn rounded(at: Units, d: u32) -> InDots
+// The rounding rule: dot and rest, where `d` dots make an inch. Those of 203 are looked up: there is no division.
+fn rounded(at: Units, d: u32) -> Rounded
     requires { ⌜ d ≤ 300 ⌝ }
-    ensures { λ r. ⌜ (r .dots ≡ rounded d (at .0)) × ((r .dots < 400000000) × (r .over ≡ (at .0 * d + 1800) % 3600)) ⌝ }
+    ensures { λ r. ⌜ (r ≡ rounding d (at .0)) × ((r .dot .0 ≡ rounded d (at .0)) × ((r .rest .0 ≡ restWord d (at .0)) × (r .dot .0 < 400000000))) ⌝ }
 {
     if d == 203 {
-        return with_dots(at.0 as u64 * 203 + 1800, inch::dots(at.0));
+        return with_dots(at.0 as u64 * 203, inch::dots(at.0));
     }
-    let n = at.0 as u64 * d as u64 + 1800;
-    with_dots(n, (n / 3600) as u32)
+    let n = at.0 as u64 * d as u64;
+    with_dots(n, ((n + 1800) / 3600) as u32)
 }
 
 // The dots of an inch across.
@@ -56,18 +52,18 @@ fn per_inch_down(resolution: Resolution) -> u32
     }
 }
 
-// The dot column of a place across.
-pub fn column(resolution: Resolution, at: Units) -> Dots
-    ensures { λ r. ⌜ r ≡ columnDots resolution (at .0) ⌝ }
+// The dot column of a place across, and its rest.
+pub fn across(resolution: Resolution, at: Units) -> Rounded
+    ensures { λ r. ⌜ r ≡ acrossRounding resolution (at .0) ⌝ }
 {
-    Dots(rounded(at, per_inch_across(resolution)).dots)
+    rounded(at, per_inch_across(resolution))
 }
 
 // The dot row of a place down.
 pub fn row(resolution: Resolution, at: Units) -> Dots
     ensures { λ r. ⌜ r ≡ rowDots resolution (at .0) ⌝ }
 {
-    Dots(rounded(at, per_inch_down(resolution)).dots)
+    rounded(at, per_inch_down(resolution)).dot
 }
 
 // An exact place across, or a step between two, as one number: 65,536 times what is over, and the dots. A step further is a sum and a comparison.
@@ -78,7 +74,8 @@ pub fn place(resolution: Resolution, at: Units) -> Exact
     ensures { λ r. ⌜ r ≡ record { 0 = packed (at .0 * perInchAcross resolution + 1800) } ⌝ }
 {
     let r = rounded(at, per_inch_across(resolution));
-    Exact(65536 * r.over + r.dots)
+    let over = (r.rest.0 as u32 + 1800) % 65536;
+    Exact(65536 * over + r.dot.0)
 }
 
 // An exact step: a length without that half.
@@ -86,10 +83,11 @@ pub fn step(resolution: Resolution, by: Units) -> Exact
     ensures { λ r. ⌜ r ≡ record { 0 = packed (by .0 * perInchAcross resolution) } ⌝ }
 {
     let r = rounded(by, per_inch_across(resolution));
-    if r.over < 1800 {
-        return Exact(65536 * (r.over + 1800) + (r.dots - 1));
+    let rest = r.rest.0 as u32;
+    if rest < 32768 {
+        return Exact(65536 * rest + r.dot.0);
     }
-    Exact(65536 * (r.over - 1800) + r.dots)
+    Exact(65536 * (rest - 61936) + (r.dot.0 - 1))
 }
 
 // The exact place a step further.
@@ -103,9 +101,16 @@ pub fn further(from: Exact, by: Exact) -> Exact
     Exact(sum - 235929599)
 }
 
-// The dots of an exact place.
-pub fn whole_dots(at: Exact) -> Dots
-    ensures { λ r. ⌜ r ≡ record { 0 = at .0 % 65536 } ⌝ }
+// The dot of an exact place.
+pub fn dot_of(at: Exact) -> Dots
+    ensures { λ r. ⌜ r ≡ record { 0 = dotOf (at .0) } ⌝ }
 {
     Dots(at.0 % 65536)
+}
+
+// Its rest: half a dot less than what is over.
+pub fn rest_of(at: Exact) -> Rest
+    ensures { λ r. ⌜ r ≡ record { 0 = restOf (at .0) } ⌝ }
+{
+    Rest(((at.0 / 65536 + 63736) % 65536) as u16)
 }

@@ -25,7 +25,7 @@ mark-back Mark.No = refl
 pub decoded-encoded : (r : Record) → FitsBytes r → decoded (encoded r) ≡ r ∷ []
 unfolding decoded encoded
 decoded-encoded r h =
-    rw (mark-back (r .mark), word (r .column .0) (h .column), word (r .row .0) (h .row), word (r .style) (h .style), word (r .advance .0) (h .advance))
+    rw (mark-back (r .mark), word (r .column .0) (h .column), word (r .row .0) (h .row), word (r .style) (h .style), word (r .advance .0) (h .advance), word (r .rest .0) (h .rest))
 
 pub length-encoded : (r : Record) → length (encoded r) ≡ recordSize
 unfolding encoded

@@ -145,7 +145,7 @@ calls-claim p g k j [] m h = nothing
 calls-claim p g k j (started c ∷ l) m h =
     let b = start-begins (c .settings) in
     let w = calls-claim (rulesAfter p (started c)) noneOpened origin origin l m (b .keeps) in
-    rw (b .begins) (record { same = w .same; between = w .between; reckoned = (tt, w .reckoned) })
+    rw (b .begins) (record { same = w .same; between = w .between; givesBack = w .givesBack; reckoned = (tt, w .reckoned) })
 calls-claim p g k j (read c ∷ l) m h =
     bytes-then p g k j (bytesOf c) (recordsIn (rulesAfter p (read c)) l) (occurrences (rulesAfter p (read c)) l)
     (bytes-take (c .back .read) (c .input) (m .0)) h
@@ -164,5 +164,6 @@ demand-3 p c l h =
       noFour = (rw (o .0) (b .number), not-four q l m (o .1) (b .keeps .ours));
       same = rw (joined-records p (started c ∷ l) o, decodedAll-encoded (recordsIn q l) (records-fit q l m (b .keeps .ours)), b .begins) (w .same);
       between = rw (b .begins) (w .between);
+      givesBack = rw (b .begins) (w .givesBack);
       reckoned = (tt, rw (b .begins) (w .reckoned));
     }

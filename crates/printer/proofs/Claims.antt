@@ -16,7 +16,7 @@ use Rattle.printer.specs.Accepted.{Ours}
 use Rattle.printer.specs.InForce.{ListSets, setsChannel, setsNothing, Opened, listOfCode, openedSets, imageOfCode, imageOfMode, opened, byteReceived}
 use Rattle.printer.specs.Reckoning.{Axis, moved, exact, Change, controlChange, changeOf, changeBy, Reckoning, reckon, Printed, printedBy, printedAt, Occurrence, event, printed}
 use Rattle.printer.specs.Shown.{Shown, shown, shownAs, shownBy, writes, written}
-use Rattle.printer.specs.Demand3.{Between, NotBelowZero, LeadsOn, LeadsAs, DoesNotFit, Reckoned, ReckonedAll}
+use Rattle.printer.specs.Demand3.{Between, GivesBack, NotBelowZero, LeadsOn, LeadsAs, DoesNotFit, Reckoned, ReckonedAll}
 use Rattle.printer.specs.Types.{Begun, Command, Control, Density, Frame, ImageMode, Listing, ListOpening, ListPart, Opening, Place, Printer, Record, Settings, Stops, Tabs, Target, Waiting}
 use Rattle.printer.proofs.Choices.{pick-elim, each-append, each-map}
 use Rattle.printer.proofs.Frames.{NoList, NoImage, clash, Framed, begins, single, opensList, opensImage, rests, afterEscape, framed-first, framed-second, framed-argument}
@@ -25,6 +25,7 @@ use Rattle.printer.proofs.Legal.{forceOf, imageAt, setBy, InStep, Overf
 use Rattle.printer.proofs.Keeping.{Writable, Bounded, keep-control, keep-done, keep}
 use Rattle.printer.proofs.KeepingSteps.{bounded, sound, step-ours}
 use Rattle.printer.proofs.NoBytes.{no-byte}
+use Rattle.printer.proofs.Rests.{dots-across, place-back}
 use Rattle.printer.proofs.Following.{from, At, Follows, follow-control, follow}
 
 -- Claims, and two of them joined
@@ -33,6 +34,7 @@ use Rattle.printer.proofs.Following.{from, At, Follows, follow-control,
 pub record Claim (records : List Record) (written : List Shown) (events : List Printed) (holding : Type 0) : Type 0 where
   pub same : shown records ≡ written
   pub between : Each Between events
+  pub givesBack : Each GivesBack events
   pub reckoned : holding
 
 shown-append : (a b : List Record) → shown (a ++ b) ≡ shown a ++ shown b
@@ -45,12 +47,13 @@ join a b v w x y R S h k =
     record {
       same = rw (shown-append a b, h .same, k .same);
       between = each-append Between x y (h .between) (k .between);
+      givesBack = each-append GivesBack x y (h .givesBack) (k .givesBack);
       reckoned = (h .reckoned, k .reckoned);
     }
 
 pub nothing : Claim [] [] [] Unit
 unfolding shown
-nothing = record { same = refl; between = tt; reckoned = tt }
+nothing = record { same = refl; between = tt; givesBack = tt; reckoned = tt }
 
 -- the claim of all that a list of occurrences writes
 abbrev pub ClaimOver : Reckoning → List Record → List Occurrence → Type 0
@@ -88,6 +91,14 @@ module _ (p : Printer) (g : Opened) (k j : Axis) (f : Tracks p k j) where
   between-margins (feed pages) h = tt
   between-margins clear h = tt
 
+  -- and what it says is printed gives the place across back
+  gives-back : (w : Writing) → Each GivesBack (printedBy (from p g k j) w)
+  gives-back silent = tt
+  gives-back (letter b m) = (place-back _ (dots-across (p .settings .setup .resolution)), tt)
+  gives-back (imageByte b part m) = (place-back _ (dots-across (p .settings .setup .resolution)), tt)
+  gives-back (feed pages) = tt
+  gives-back clear = tt
+
   -- what follows the rules is claimed
   turn-claim : (t : Change) (l : Effect) → Follows t l k j → Writable (p .settings) (p .place) (l .writing)
       → Claim (recordsAt p l) (shownBy (from p g k j) t) (printedBy (from p g k j) (t .writing)) (NotBelowZero (moved k (t .across)) × NotBelowZero (moved j (t .down)))
@@ -95,6 +106,7 @@ module _ (p : Printer) (g : Opened) (k j : Axis) (f : Tracks p k j) where
       record {
         same = rw (h .writing) (same-writing (l .place) (moved j (t .down)) (l .writing) (exact-at _ _ (h .down)));
         between = rw (h .writing) (between-margins (l .writing) w);
+        givesBack = gives-back (t .writing);
         reckoned = (not-below _ _ (h .across), not-below _ _ (h .down));
       }
 
@@ -202,11 +214,12 @@ module _ (p : Printer) (g : Opened) (k j : Axis) (f : Tracks p k j) where
   unfolding shown
   event-claim (done c m) h i =
       let v = turn-claim p g k j f _ (effectAt p c m) (command-follows c m h i) (keep-done p c m h (f .bounded) .1) in
-      record { same = v .same; between = v .between; reckoned = record { across = v .reckoned .0; down = v .reckoned .1; room = tt; leads = leads-as c m (h .needs); classified = h .classified } }
+      record { same = v .same; between = v .between; givesBack = v .givesBack; reckoned = record { across = v .reckoned .0; down = v .reckoned .1; room = tt; leads = leads-as c m (h .needs); classified = h .classified } }
   event-claim (passed c reason) h i =
       record {
         same = rw (no-byte c);
         between = tt;
+        givesBack = tt;
         reckoned =
             record {
               across = not-below _ _ (f .across);
@@ -218,11 +231,11 @@ module _ (p : Printer) (g : Opened) (k j : Axis) (f : Tracks p k j) where
       }
   event-claim (inside c m) h i =
       let v = control-claim c m h in
-      record { same = v .same; between = v .between; reckoned = record { across = v .reckoned .0; down = v .reckoned .1; room = tt; leads = leads-on c m h; classified = tt } }
+      record { same = v .same; between = v .between; givesBack = v .givesBack; reckoned = record { across = v .reckoned .0; down = v .reckoned .1; room = tt; leads = leads-on c m h; classified = tt } }
   event-claim (automatic m) h i =
       let v = control-claim Control.LineFeed m (h .0) in
       let a = f .across in let q = f .bounded .within in let u = h .1 in let z = h .2 in
-      record { same = v .same; between = v .between; reckoned = record { across = v .reckoned .0; down = v .reckoned .1; room = omega arith; leads = leads-on Control.LineFeed m (h .0); classified = tt } }
+      record { same = v .same; between = v .between; givesBack = v .givesBack; reckoned = record { across = v .reckoned .0; down = v .reckoned .1; room = omega arith; leads = leads-on Control.LineFeed m (h .0); classified = tt } }
 
 -- Events, then what follows them
 

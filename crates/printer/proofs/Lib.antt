@@ -22,6 +22,7 @@ pub mod Vertical
 pub mod Untouched
 pub mod Following
 pub mod NoBytes
+pub mod Rests
 pub mod Claims
 pub mod CallLists
 pub mod ByHand

@@ -7,7 +7,7 @@ use mathlib.Core.List.{List, [], _∷_, _++_}
 use native.Mathlib.Omega.{arith}
 use lib.ListN.{length}
 use Rattle.printer.specs.Tools.{Each, Bytes}
-use Rattle.printer.specs.Units.{rounded}
+use Rattle.printer.specs.Units.{rounded, restWord, forth, back}
 use Rattle.printer.specs.Widths.{imageBytes}
 use Rattle.printer.specs.PowerOn.{powerOn, stopRoom}
 use Rattle.printer.specs.Records.{recordSize, roomForByte, passedRecord, encoded, encodedAll}
@@ -38,6 +38,7 @@ use Rattle.printer.proofs.Listed.{every-listed}
 use Rattle.printer.proofs.Spelling.{steps-spell, steps-classified}
 use Rattle.printer.proofs.Advanced.{advanced-commands}
 use Rattle.printer.proofs.Columns.{column-from, other-mode}
+use Rattle.printer.proofs.Rests.{signed}
 use Rattle.printer.proofs.Vertical.{dropped-list, other-channel, this-channel, same-rules}
 use Rattle.printer.proofs.Untouched.{spared, bytes-spare}
 use Rattle.printer.proofs.Bytes.{decoded-encoded, decodedAll-encoded}
@@ -82,6 +83,14 @@ room-is-enough p b = omega (arith, two-records p b)
 -- the rounding rule is within half a dot
 pub half-a-dot : (d n : ℕ) → (3600 * rounded d n ≤ n * d + 1800) × (n * d + 1800 < 3600 * rounded d n + 3600)
 half-a-dot d n = omega arith
+
+-- and its rest is units × D − 3,600 × dot ..
+pub rest-together : (d n : ℕ) → n * d + back (restWord d n) ≡ 3600 * rounded d n + forth (restWord d n)
+rest-together d n = signed d n .together
+
+-- .. from −1,800 to 1,799
+pub rest-range : (d n : ℕ) → (forth (restWord d n) ≤ 1799) × (back (restWord d n) ≤ 1800)
+rest-range d n = (signed d n .most, signed d n .least)
 
 -- decoding an encoding gives the record back
 pub decoding : (r : Record) → FitsBytes r → decoded (encoded r) ≡ r ∷ []

@@ -7,7 +7,7 @@ use native.Mathlib.Omega.{arith}
 use lib.Dec.{leb, eqb}
 use borrow.Author.Tests.{leb-true, eqb-true}
 use Rattle.printer.specs.Tools.{pick, Bytes, Each}
-use Rattle.printer.specs.Units.{columnDots, rowDots}
+use Rattle.printer.specs.Units.{acrossRounding, rowDots}
 use Rattle.printer.specs.Widths.{doubleWidth}
 use Rattle.printer.specs.Settings.{acrossOf, downOf}
 use Rattle.printer.specs.Escapes.{countries}
@@ -34,9 +34,12 @@ unfolding styleOf
 style-fits s =
     omega (arith, flag-le (s .emphasis .bold) 0x1, flag-le (s .emphasis .doublestrike) 0x2, flag-le (s .emphasis .italic) 0x4, flag-le (s .emphasis .underline) 0x8, flag-le (s .script .superscript) 0x10, flag-le (s .script .subscript) 0x20, flag-le (doubleWidth (s .width)) 0x40, flag-le (s .face .doubleheight) 0x80, flag-le (s .width .proportional) 0x400, flag-le (s .width .reduced) 0x800, flag-le (s .face .italictable) 0x1000, flag-le (s .face .download) 0x2000)
 
-column-fits : (r : Resolution) (n : ℕ) → n ≤ 79200 → columnDots r n .0 ≤ 65535
+column-fits : (r : Resolution) (n : ℕ) → n ≤ 79200 → acrossRounding r n .dot .0 ≤ 65535
 column-fits Resolution.Dots300 n h = omega arith
 column-fits Resolution.Dots203 n h = omega arith
+
+rest-fits : (r : Resolution) (n : ℕ) → acrossRounding r n .rest .0 ≤ 65535
+rest-fits r n = omega arith
 
 row-fits : (r : Resolution) (n : ℕ) → n ≤ 79200 → rowDots r n .0 ≤ 65535
 row-fits Resolution.Dots300 n h = omega arith
@@ -64,6 +67,7 @@ module _ (s : Settings) (x : Place) (f : WithinBounds s x) where
         style = style-fits s;
         country = country-fits (s .face .country) (omega arith);
         advance = h .1;
+        rest = rest-fits (s .setup .resolution) (acrossOf x);
       }
 
   image-fits : (b part n : ℕ) → Writable s x (imageByte b part n) → FitsBytes (imageRecord s x b part n)
@@ -76,6 +80,7 @@ module _ (s : Settings) (x : Place) (f : WithinBounds s x) where
         style = omega arith;
         country = omega arith;
         advance = h .1;
+        rest = rest-fits (s .setup .resolution) (acrossOf x);
       }
 
 feed-fits : (r : Resolution) (down pages : ℕ) → down ≤ 79200 → pages ≤ 255 → FitsBytes (feedRecord r down pages)
@@ -88,6 +93,7 @@ feed-fits r down pages h k =
       style = omega arith;
       country = omega arith;
       advance = omega arith;
+      rest = omega arith;
     }
 
 clear-fits : FitsBytes clearRecord

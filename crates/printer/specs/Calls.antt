@@ -62,7 +62,7 @@ abbrev pub afterByte : List Record → Run → Run
 afterByte l v =
     record { answer = v .answer; printer = v .printer; read = suc (v .read); records = l ++ v .records }
 
--- under 28 output bytes left
+-- under 32 output bytes left
 abbrev pub isFull : (room : ℕ) → Bool
 isFull room = ltb room roomForByte
 
@@ -154,7 +154,7 @@ AllowanceLeft c = c .back .read < c .allowance
 pub record NewState (c : ReadCall) : Type 0 where
   pub state : c .left ≡ stateAfter (c .state) (bytesOf c)
   pub written : c .back .written ≡ recordSize * length (recordsOver (c .state) (bytesOf c))
-  -- before each byte read, allowance and 28 output bytes were left
+  -- before each byte read, allowance and 32 output bytes were left
   pub allowed : c .back .read ≤ c .allowance
   pub room : (n : ℕ) → n < c .back .read → recordSize * length (recordsOver (c .state) (take n (c .input))) + roomForByte ≤ length (c .out)
   pub output : c .after ≡ encodedAll (recordsOver (c .state) (bytesOf c)) ++ drop (c .back .written) (c .out)
@@ -193,7 +193,7 @@ row Answer.AllowanceUsed =
       starting = λ c. never;
       reading = λ c. cell (InBounds c × (c .back .read ≡ c .allowance) × InputLeft c) (NewState c);
     }
--- under 28 output bytes left, input and allowance left
+-- under 32 output bytes left, input and allowance left
 row Answer.OutputFull =
     record {
       number = 2;

@@ -127,6 +127,6 @@ pub record CheckedByHand : Type 0 where
   -- case 1, byte for byte
   pub bytes :
       bytesAt 300 (0x41 ∷ 0x0A ∷ [])
-      ≡ 0x54 ∷ 0x58 ∷ 0 ∷ 0 ∷ 0 ∷ 0 ∷ 0x41 ∷ 0 ∷ 0 ∷ 0 ∷ 0 ∷ 0 ∷ 0x68 ∷ 0x01 ∷
-      0x4C ∷ 0x4E ∷ 0 ∷ 0 ∷ 0x32 ∷ 0 ∷ 0 ∷ 0 ∷ 0 ∷ 0 ∷ 0 ∷ 0 ∷ 0 ∷ 0 ∷ []
+      ≡ 0x54 ∷ 0x58 ∷ 0 ∷ 0 ∷ 0 ∷ 0 ∷ 0x41 ∷ 0 ∷ 0 ∷ 0 ∷ 0 ∷ 0 ∷ 0x68 ∷ 0x01 ∷ 0 ∷ 0 ∷
+      0x4C ∷ 0x4E ∷ 0 ∷ 0 ∷ 0x32 ∷ 0 ∷ 0 ∷ 0 ∷ 0 ∷ 0 ∷ 0 ∷ 0 ∷ 0 ∷ 0 ∷ 0 ∷ 0 ∷ []
   pub cases : map linesOfCase table ≡ map (λ c. c .lines) table

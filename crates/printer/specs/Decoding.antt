@@ -33,13 +33,14 @@ fieldsAt l (m ∷ ms) =
       style = wordAt l 8;
       country = getD l 10 0;
       advance = units (wordAt l 12);
+      rest = record { 0 = wordAt l 14 };
     } ∷ []
 
--- the record that 14 bytes are; none if they begin with no mark
+-- the record that 16 bytes are; none if they begin with no mark
 unfoldable pub decoded : List ℕ → List Record
 decoded l = fieldsAt l (marksOf (getD l 0 0) (getD l 1 0))
 
--- the records of the first n times 14 bytes
+-- the records of the first n times 16 bytes
 unfoldable pub decodedFirst : ℕ → List ℕ → List Record
 decodedFirst zero l = []
 decodedFirst (suc n) l = decoded (take recordSize l) ++ decodedFirst n (drop recordSize l)
@@ -56,3 +57,4 @@ pub record FitsBytes (r : Record) : Type 0 where
   pub style : r .style ≤ 65535
   pub country : r .country ≤ 255
   pub advance : r .advance .0 ≤ 65535
+  pub rest : r .rest .0 ≤ 65535

@@ -4,15 +4,16 @@ use mathlib.Core.Path.{_≡_}
 use mathlib.Core.List.{List, [], _∷_, _++_, map}
 use lib.ListN.{length, getD}
 use Rattle.printer.specs.Tools.{Each, Bytes}
+use Rattle.printer.specs.Units.{forth, back}
 use Rattle.printer.specs.Decoding.{decodedAll}
 use Rattle.printer.specs.Steps.{stateAfter, eventsOver}
 use Rattle.printer.specs.Calls.{numberOf, plainStart, startOf, readingOf, outputOf, StartCall, ReadCall, bytesOf, writtenOf}
 use Rattle.printer.specs.Promises.{StartPromise, ReadingPromise}
 use Rattle.printer.specs.InForce.{advanceIn, columnIn}
 use Rattle.printer.specs.Performing.{Event, done, passed, inside, automatic, Writing, silent, letter, imageByte, feed, clear}
-use Rattle.printer.specs.Reckoning.{Axis, Reckoning, changeOf, reckon, reckonNext, Occurrence, start, event, begun, Printed, printed}
+use Rattle.printer.specs.Reckoning.{Axis, exact, Reckoning, changeOf, reckon, reckonNext, Occurrence, start, event, begun, Printed, printed}
 use Rattle.printer.specs.Spelling.{ClassifiedEvent}
-use Rattle.printer.specs.Shown.{Shown, shown, written}
+use Rattle.printer.specs.Shown.{Shown, placed, plain, shown, dotted, written}
 use Rattle.printer.specs.Types.{Command, Control, Printer}
 
 -- Calls with what came back
@@ -79,6 +80,16 @@ pub record Between (e : Printed) : Type 0 where
   pub toRight :
       e .here .across .set + e .here .across .forth + e .advance
       ≤ e .here .force .measures .right + e .here .across .back
+
+-- document 02, E7: at D dots an inch dot column and rest are those of the place n: n × D = 3,600 × column + rest
+abbrev pub IsAt : (d n : ℕ) → Shown → Type 0
+IsAt d n (placed s) = n * d + back (s .rest) ≡ 3600 * s .column + forth (s .rest)
+IsAt d n (plain s) = ⊥
+
+-- together they give the exact place across back: they are those of it, and of no other
+pub record GivesBack (e : Printed) : Type 0 where
+  pub place : IsAt (e .here .force .kept .dAcross) (exact (e .here .across)) (dotted e)
+  pub only : (n : ℕ) → IsAt (e .here .force .kept .dAcross) n (dotted e) → n ≡ exact (e .here .across)
 
 -- an advance from here would pass the right margin
 abbrev pub Overflows : Reckoning → (advance : ℕ) → Type 0
@@ -181,4 +192,5 @@ pub record Demand3 (p : Printer) (l : List Call) : Type 0 where
   pub noFour : Each NotFour l
   pub same : shown (decodedAll (joined l)) ≡ writtenOver p l
   pub between : Each Between (printedOver p l)
+  pub givesBack : Each GivesBack (printedOver p l)
   pub reckoned : ReckonedAll (begun plainStart) (occurrences p l)

@@ -1,4 +1,4 @@
--- Document 01, with E1, E3, E4 and E6 of document 02, as definitions.
+-- Document 01, with E1, E3, E4, E6 and E7 of document 02, as definitions.
 
 -- The rules, which must be believed, in the paper's order where they can stand so.
 pub mod Types

@@ -1,16 +1,16 @@
--- Document 01, 'Records': the fields, and their bytes.
+-- Document 01, 'Records': the fields, and their bytes; document 02, E7: the rest across, at the end.
 use Prim.Native.Nat.{ℕ, _+_, _*_, _/_, _%_}
 use mathlib.Core.Bool.{Bool}
 use mathlib.Core.List.{List, [], _∷_, _++_}
 use Rattle.printer.specs.Tools.{pick}
-use Rattle.printer.specs.Units.{units, columnDots, rowDots}
+use Rattle.printer.specs.Units.{units, acrossRounding, rowDots}
 use Rattle.printer.specs.Widths.{doubleWidth}
 use Rattle.printer.specs.Settings.{acrossOf, downOf}
 use Rattle.printer.specs.Types.{Mark, Record, Settings, Place, Dots, Resolution}
 
 -- the bytes of a record, and the room that a byte's records may take
 abbrev pub recordSize : ℕ
-recordSize = 14
+recordSize = 16
 
 abbrev pub roomForByte : ℕ
 roomForByte = 2 * recordSize
@@ -37,30 +37,32 @@ abbrev pub letterRecord : Settings → Place → (byte advance : ℕ) → Record
 letterRecord s x b n =
     record {
       mark = Mark.Tx;
-      column = columnDots (s .setup .resolution) (acrossOf x);
+      column = acrossRounding (s .setup .resolution) (acrossOf x) .dot;
       row = rowDots (s .setup .resolution) (downOf x);
       byte = b;
       font = s .face .font;
       style = styleOf s;
       country = s .face .country;
       advance = units n;
+      rest = acrossRounding (s .setup .resolution) (acrossOf x) .rest;
     }
 
--- IM: an image byte; column, row, byte, advance; document 02, E4: the font says which of three bytes it is
+-- IM: an image byte; column, row, byte, advance, rest; document 02, E4: the font says which of three bytes it is
 abbrev pub imageRecord : Settings → Place → (byte part advance : ℕ) → Record
 imageRecord s x b part n =
     record {
       mark = Mark.Im;
-      column = columnDots (s .setup .resolution) (acrossOf x);
+      column = acrossRounding (s .setup .resolution) (acrossOf x) .dot;
       row = rowDots (s .setup .resolution) (downOf x);
       byte = b;
       font = part;
       style = 0;
       country = 0;
       advance = units n;
+      rest = acrossRounding (s .setup .resolution) (acrossOf x) .rest;
     }
 
--- the others have no column, font, country or advance
+-- the others have no column, font, country, advance or rest
 abbrev pub plainRecord : Mark → Dots → (byte style : ℕ) → Record
 plainRecord m row b style =
     record {
@@ -72,6 +74,7 @@ plainRecord m row b style =
       style = style;
       country = 0;
       advance = units 0;
+      rest = record { 0 = 0 };
     }
 
 -- LN: the new place down, and the pages turned
@@ -141,6 +144,7 @@ encoded r =
     r .country ∷
     0 ∷
     low (r .advance .0) ∷ high (r .advance .0) ∷
+    low (r .rest .0) ∷ high (r .rest .0) ∷
     []
 
 unfoldable pub encodedAll : List Record → List ℕ

@@ -3,7 +3,7 @@ use Prim.Native.Nat.{ℕ}
 use mathlib.Core.List.{List, [], _∷_, _++_}
 use lib.Dec.{eqb}
 use Rattle.printer.specs.Tools.{pick}
-use Rattle.printer.specs.Units.{rounded}
+use Rattle.printer.specs.Units.{rounded, restWord}
 use Rattle.printer.specs.Codes.{spelt}
 use Rattle.printer.specs.Performing.{Event, done, passed, inside, automatic, Writing, silent, letter, imageByte, feed, clear}
 use Rattle.printer.specs.Reckoning.{Axis, moved, exact, Change, controlChange, changeOf, Reckoning, reckonNext, Occurrence, start, event, Printed, printedOf}
@@ -19,6 +19,7 @@ pub record Placed : Type 0 where
   pub column : ℕ
   pub row : ℕ
   pub advance : ℕ
+  pub rest : ℕ
 
 -- LN, CL and NO: every field
 pub record Plain : Type 0 where
@@ -30,6 +31,7 @@ pub record Plain : Type 0 where
   pub style : ℕ
   pub country : ℕ
   pub advance : ℕ
+  pub rest : ℕ
 
 pub data Shown : Type 0 where
   placed : Placed → Shown
@@ -37,7 +39,7 @@ pub data Shown : Type 0 where
 
 abbrev placedAs : Record → Mark → (part : ℕ) → Placed
 placedAs r m part =
-    record { mark = m; byte = r .byte; part = part; column = r .column .0; row = r .row .0; advance = r .advance .0 }
+    record { mark = m; byte = r .byte; part = part; column = r .column .0; row = r .row .0; advance = r .advance .0; rest = r .rest .0 }
 
 abbrev plainAs : Record → Mark → Plain
 plainAs r m =
@@ -50,6 +52,7 @@ plainAs r m =
       style = r .style;
       country = r .country;
       advance = r .advance .0;
+      rest = r .rest .0;
     }
 
 abbrev pub shownRecord : Record → Mark → Shown
@@ -66,7 +69,7 @@ shown (r ∷ l) = shownRecord r (r .mark) ∷ shown l
 
 -- What an event writes
 
--- what is printed, at the rounding rule's dots of its exact place
+-- what is printed, at the rounding rule's dots of its exact place, with the rest across
 abbrev pub dotted : Printed → Shown
 dotted e =
     placed (record {
@@ -76,6 +79,7 @@ dotted e =
       column = rounded (e .here .force .kept .dAcross) (exact (e .here .across));
       row = rounded (e .here .force .kept .dDown) (exact (e .here .down));
       advance = e .advance;
+      rest = restWord (e .here .force .kept .dAcross) (exact (e .here .across));
     })
 
 abbrev only : Mark → (byte row style : ℕ) → Shown
@@ -89,6 +93,7 @@ only m byte row style =
       style = style;
       country = 0;
       advance = 0;
+      rest = 0;
     })
 
 -- by the reckoning before, and the place down after: LN bears its row

@@ -51,4 +51,6 @@ pub use Rattle.printer.specs.declared.stops.Stops.{Stops}
 pub use Rattle.printer.specs.declared.stops.TabStops.{TabStops}
 pub use Rattle.printer.specs.declared.units.Dots.{Dots}
 pub use Rattle.printer.specs.declared.units.Resolution.{Resolution}
+pub use Rattle.printer.specs.declared.units.Rest.{Rest}
+pub use Rattle.printer.specs.declared.units.Rounded.{Rounded}
 pub use Rattle.printer.specs.declared.units.Units.{Units}

@@ -1,5 +1,6 @@
 // The records that are written.
 use crate::units::Dots;
+use crate::units::Rest;
 use crate::units::Units;
 
 pub enum Mark {
@@ -19,9 +20,10 @@ pub struct Record {
     pub style: u16,
     pub country: u8,
     pub advance: Units,
+    pub rest: Rest,
 }
 
 impl Record {
     // The bytes of a record.
-    pub const SIZE: usize = 14;
+    pub const SIZE: usize = 16;
 }

@@ -22,6 +22,7 @@ tx column =
       style = 0;
       country = 0;
       advance = units 360;
+      rest = record { 0 = 0 };
     }
 
 abbrev ln : (pages : ℕ) → Record
@@ -45,6 +46,7 @@ im column =
       style = 0;
       country = 0;
       advance = units 60;
+      rest = record { 0 = 0 };
     }
 
 -- one more than the place of what is found from column 10 to column 20

@@ -5,7 +5,7 @@ use mathlib.Core.Bool.{Bool, true, false}
 use mathlib.Core.List.{List, [], _∷_, _++_, map}
 use mathlib.Core.Logic.{_⊎_}
 use Rattle.printer.specs.Tools.{pick, Each}
-use Rattle.printer.specs.Units.{units, columnDots, rowDots}
+use Rattle.printer.specs.Units.{units, acrossRounding, rowDots}
 use Rattle.printer.specs.Records.{newTop}
 use Rattle.printer.specs.Steps.{stateAfter, recordsOver, eventsOver}
 use Rattle.printer.specs.Decoding.{decodedAll}
@@ -50,18 +50,19 @@ unfoldable pub textsIn : List Record → List Record
 textsIn [] = []
 textsIn (x ∷ l) = pick (prints (x .mark)) (x ∷ textsIn l) (textsIn l)
 
--- TX of a letter at the dots of its place, plain, 10 cpi
+-- TX of a letter at the dots of its place, with the rest across, plain, 10 cpi
 abbrev pub textOf : Resolution → Letter → Record
 textOf r x =
     record {
       mark = Mark.Tx;
-      column = columnDots r (x .across);
+      column = acrossRounding r (x .across) .dot;
       row = rowDots r (x .down);
       byte = x .byte;
       font = 0;
       style = 0;
       country = 0;
       advance = units 360;
+      rest = acrossRounding r (x .across) .rest;
     }
 
 -- no NO, and no page turned: a TX, or an LN of no pages

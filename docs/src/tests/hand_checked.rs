@@ -1,6 +1,7 @@
 //! The ten cases checked by hand, and the errors that read well.
 
 use super::*;
+use crate::state::{dot_parts, rounded};
 
 #[test]
 fn case_1_records_byte_for_byte() {
@@ -10,7 +11,7 @@ fn case_1_records_byte_for_byte() {
     assert_eq!((report.answer, report.read), (0, 2));
     let (written, rest) = out.split_at(report.written);
     let hex: String = written.iter().map(|byte| format!("{byte:02x}")).collect();
-    let expected = "54580000000041000000000068014c4e000032000000000000000000";
+    let expected = "545800000000410000000000680100004c4e0000320000000000000000000000";
     assert_eq!(hex, expected);
     assert!(rest.iter().all(|&byte| byte == 0xEE));
 }
@@ -26,12 +27,29 @@ fn case_2_tabs() {
 fn case_3_at_203() {
     let records = read_all(&mut start(203, false).1, b"AAA");
     assert_eq!(columns(&records), [0, 20, 41]);
+    let rests: Vec<i16> = records.iter().map(|record| record.rest).collect();
+    assert_eq!(rests, [0, 1_080, -1_440]);
+}
+
+/// Dot and rest together are the length, whatever it is, and the rest is less
+/// than half a dot, or half a dot below.
+#[test]
+fn dot_and_rest_of_every_place() {
+    for per_inch in [203, 300] {
+        for units in 0..=28_800 {
+            let place = rounded(dot_parts(units, per_inch));
+            let (dot, rest) = (i64::from(place.dot), i64::from(place.rest));
+            assert_eq!(3_600 * dot + rest, i64::from(units * per_inch));
+            assert!((-1_800..1_800).contains(&rest));
+        }
+    }
 }
 
 #[test]
 fn case_4_image() {
     let records = at_300(b"\x1BL\x02\x00\xAA\x55");
-    assert_eq!(records, [im(0xAA, 0, 0, 30), im(0x55, 3, 0, 30)]);
+    let second = off(-1_800, im(0x55, 3, 0, 30));
+    assert_eq!(records, [im(0xAA, 0, 0, 30), second]);
 }
 
 #[test]

@@ -55,10 +55,15 @@ fn three_columns_of_every_mode() {
         let records = at_300(&drawn(mode, 3, &[&data[..], b"A"].concat()));
         let (letter, images) = records.split_last().unwrap();
         let due = data.iter().enumerate();
-        let due = due.map(|(at, &byte)| part(font(bytes, at), byte, dots[at / bytes], units));
+        let due = due.map(|(at, &byte)| {
+            let image = part(font(bytes, at), byte, dots[at / bytes], units);
+            exactly((at / bytes) as u32 * u32::from(units), image)
+        });
         assert_eq!(images, due.collect::<Vec<_>>(), "mode {mode}");
-        let after = (3 * u32::from(units) * 300 + 1_800) / 3_600;
-        assert_eq!(*letter, tx(b'A', after as u16, 0, 360), "mode {mode}");
+        let place = 3 * u32::from(units);
+        let after = (place * 300 + 1_800) / 3_600;
+        let due = exactly(place, tx(b'A', after as u16, 0, 360));
+        assert_eq!(*letter, due, "mode {mode}");
     }
 }
 
@@ -73,10 +78,10 @@ fn a_column_of_three_bytes_byte_for_byte() {
     assert_eq!(
         lines.collect::<Vec<String>>(),
         [
-            "494d000000008001000000001400",
-            "494d000000000002000000001400",
-            "494d000000000103000000001400",
-            "494d02000000ff01000000001400",
+            "494d0000000080010000000014000000",
+            "494d0000000000020000000014000000",
+            "494d0000000001030000000014000000",
+            "494d02000000ff0100000000140050fb",
         ]
     );
     assert_eq!(state.across, 20);
@@ -155,9 +160,10 @@ fn what_is_waited_for_after_each_byte() {
     assert_eq!(after(9), (image(2, 2), 0, vec![part(1, 9, 0, 20)]));
     assert_eq!(after(8), (image(3, 2), 0, vec![part(2, 8, 0, 20)]));
     assert_eq!(after(7), (image(1, 1), 20, vec![part(3, 7, 0, 20)]));
-    assert_eq!(after(6), (image(2, 1), 20, vec![part(1, 6, 2, 20)]));
-    assert_eq!(after(5), (image(3, 1), 20, vec![part(2, 5, 2, 20)]));
-    assert_eq!(after(4), (Waiting::Nothing, 40, vec![part(3, 4, 2, 20)]));
+    let second = |nth, byte| vec![off(-1_200, part(nth, byte, 2, 20))];
+    assert_eq!(after(6), (image(2, 1), 20, second(1, 6)));
+    assert_eq!(after(5), (image(3, 1), 20, second(2, 5)));
+    assert_eq!(after(4), (Waiting::Nothing, 40, second(3, 4)));
 }
 
 #[test]
@@ -181,7 +187,7 @@ fn the_last_of_nineteen_columns_does_not_fit() {
     let data: Vec<u8> = (1..=57).collect();
     let records = at_300(&[b"\x1BQ\x01", &drawn(39, 19, &data)[..], b"A"].concat());
     assert_eq!(records.len(), 1 + 57 + 2);
-    assert_eq!(records[54], part(3, 54, 28, 20));
+    assert_eq!(records[54], off(1_200, part(3, 54, 28, 20)));
     assert_eq!(records[55..58], [no(55, 4), no(56, 4), no(57, 4)]);
     assert_eq!(records[58..], [ln(50, 0), tx(b'A', 0, 50, 360)]);
 }
@@ -231,8 +237,10 @@ fn numbers_of_columns() {
             let data = vec![0x1B; columns * bytes];
             let records = at_300(&drawn(mode, columns as u16, &[&data[..], b"A"].concat()));
             assert_eq!(records.len(), columns * bytes + 1);
-            let after = (columns as u32 * u32::from(units) * 300 + 1_800) / 3_600;
-            assert_eq!(records.last(), Some(&tx(b'A', after as u16, 0, 360)));
+            let place = columns as u32 * u32::from(units);
+            let after = (place * 300 + 1_800) / 3_600;
+            let due = exactly(place, tx(b'A', after as u16, 0, 360));
+            assert_eq!(records.last(), Some(&due));
         }
     }
 }
@@ -244,7 +252,8 @@ fn the_most_columns() {
     let (_, mut state) = start(300, false);
     let records = read_all(&mut state, &drawn(40, 65_535, &data[1..]));
     assert_eq!(records.len(), data.len() - 1);
-    assert_eq!(records[3 * 2_880 - 1], part(3, 0x40, 2_399, 10));
+    let last = off(600, part(3, 0x40, 2_399, 10));
+    assert_eq!(records[3 * 2_880 - 1], last);
     let over = &records[3 * 2_880..];
     assert!(over.iter().all(|record| *record == no(0x40, 4)));
     let last = Waiting::Image {
@@ -299,7 +308,8 @@ fn a_column_cut_anywhere() {
 #[test]
 fn upper_codes_inside_it() {
     let image = [part(1, 0x9B, 0, 20), part(2, 0x1B, 0, 20)];
-    let image = [&image[..], &[part(3, 0x40, 0, 20), tx(b'A', 2, 0, 360)]].concat();
+    let last = [part(3, 0x40, 0, 20), off(-1_200, tx(b'A', 2, 0, 360))];
+    let image = [&image[..], &last].concat();
     let letter = tx(b'A', 0, 0, 360);
     for first in [0x1B, 0x9B] {
         let after = |rest: &[u8]| at_300(&[&[0x1B, b'7', first], rest].concat());

@@ -165,5 +165,6 @@ fn images_at_the_right_margin() {
     assert_eq!(records[6], im(6, 25, 0, 60));
     assert_eq!(records[7..], [no(7, 4), ln(50, 0), tx(65, 0, 50, 360)]);
     assert_eq!(at_300(b"\x1BZ\x00\x00A"), [tx(65, 0, 0, 360)]);
-    assert_eq!(at_300(b"\x1BY\x01\x00A\x1BZ\x01\x00B")[1], im(66, 3, 0, 15));
+    let second = at_300(b"\x1BY\x01\x00A\x1BZ\x01\x00B")[1];
+    assert_eq!(second, off(-1_800, im(66, 3, 0, 15)));
 }

@@ -13,7 +13,8 @@ fn bytes(seen: &Seen) -> [u8; RECORD_SIZE] {
     bytes[7] = seen.font;
     bytes[8..10].copy_from_slice(&seen.style.to_le_bytes());
     bytes[10] = seen.country;
-    bytes[12..].copy_from_slice(&seen.advance.to_le_bytes());
+    bytes[12..14].copy_from_slice(&seen.advance.to_le_bytes());
+    bytes[14..].copy_from_slice(&seen.rest.to_le_bytes());
     bytes
 }
 
@@ -61,7 +62,7 @@ fn the_last_in_the_range() {
     assert_eq!(found(&records, 0, 149), Some(0));
     assert_eq!(found(&records, 0, 65_535), Some(3));
     assert_eq!(found(&records, 201, 299), None);
-    assert_eq!(slot(&list(&records), 100, 200), (0, 28..42));
+    assert_eq!(slot(&list(&records), 100, 200), (0, 32..48));
 }
 
 #[test]
@@ -106,9 +107,9 @@ fn a_length_beside_a_multiple() {
     for length in 0..=records.len() {
         let answer = match length {
             0 => (0, 0..0),
-            14 => (0, 0..14),
-            28 => (0, 14..28),
-            42 => (0, 28..42),
+            16 => (0, 0..16),
+            32 => (0, 16..32),
+            48 => (0, 32..48),
             _ => (5, 0..0),
         };
         assert_eq!(slot(&records[..length], 0, 65_535), answer, "{length}");
@@ -118,7 +119,7 @@ fn a_length_beside_a_multiple() {
 /// Refusals first.
 #[test]
 fn a_length_beside_a_multiple_and_a_above_b() {
-    for length in [1, 13, 15, 27, 29] {
+    for length in [1, 14, 15, 17, 28, 31, 33] {
         assert_eq!(slot(&vec![0; length], 9, 3), (LIST_REFUSED, 0..0));
     }
 }

@@ -42,7 +42,7 @@ fn it_reads_back() {
     // 20 units are 1.67 dots, 28,440 are 2,370, 39,580 are 3,298.33
     let expected = [
         ln(0, 255),
-        tx(b'A', 2, 0, 360),
+        off(-1_200, tx(b'A', 2, 0, 360)),
         tx(b'B', 2_370, 0, 360),
         tx(b'C', 0, 3_298, 360),
     ];

@@ -7,9 +7,10 @@ static void print_record(const uint8_t *bytes)
 {
     escp_record record;
     escp_fill_record(&record, bytes);
-    printf("record %u %u %u %u %u %u %u %u %u %u\n", (unsigned)record.mark, (unsigned)record.column, (unsigned)record.row,
-           (unsigned)record.byte, (unsigned)record.font, (unsigned)record.style, (unsigned)record.country,
-           (unsigned)record.advance, (unsigned)record.pages, (unsigned)record.reason);
+    printf("record %u %u %u %u %u %u %u %u %d %u %u\n", (unsigned)record.mark, (unsigned)record.column,
+           (unsigned)record.row, (unsigned)record.byte, (unsigned)record.font, (unsigned)record.style,
+           (unsigned)record.country, (unsigned)record.advance, (int)record.rest, (unsigned)record.pages,
+           (unsigned)record.reason);
 }
 
 static void print_letter(uint8_t byte, uint16_t across, uint16_t down)
@@ -36,6 +37,10 @@ int main(void)
         for (uint32_t units = 0; units < 100000; units += 7)
             printf("dot %u\n", (unsigned)escp_dot(units, dots[at]));
     printf("dot %u\n", (unsigned)escp_dot(14000000, 300));
+    for (unsigned at = 0; at < 2; at++)
+        for (unsigned column = 1; column < 65536; column += 97)
+            for (int rest = -1800; rest < 1800; rest += 37)
+                printf("place %u\n", (unsigned)escp_place((uint16_t)column, (int16_t)rest, dots[at]));
     for (unsigned at = 0; at < 5; at++) {
         for (unsigned byte = 0; byte < ESCP_RECORD_SIZE; byte++)
             bytes[byte] = (uint8_t)(0x21 + 7 * byte);

@@ -3,8 +3,8 @@
 
 use crate::counts::counted;
 use crate::Problem;
+use compare::record::{self, Record, RECORD_SIZE};
 use ierbulosc::interface::{escp_slot, Part};
-use ierbulosc::RECORD_SIZE;
 use std::hint::black_box;
 use std::time::{Duration, Instant};
 
@@ -78,17 +78,16 @@ impl List {
     }
 
     /// The record before so many newer ones.
-    fn record(&self, age: usize) -> [u8; RECORD_SIZE] {
+    fn record(&self, age: usize) -> Record {
         let (mark, column, byte) = match (self.kind, age) {
             (Kind::NewestTen, 9) => (b"TX", COLUMN, b'R'),
             (Kind::PageOf20, 20) => (b"LN", 0, 1),
             (_, age) if age % 8 == 4 => (b"LN", 0, 0),
             _ => (b"TX", COLUMN + 30, b'A'),
         };
-        let mut record = [0; RECORD_SIZE];
-        record[..2].copy_from_slice(mark);
-        record[2..4].copy_from_slice(&column.to_le_bytes());
-        record[6] = byte;
+        let mut record = record::marked(*mark);
+        record::set(&mut record, record::COLUMN, column);
+        record[record::BYTE] = byte;
         record
     }
 }

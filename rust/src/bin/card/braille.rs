@@ -115,6 +115,7 @@ impl Dots {
                 byte,
                 part,
                 advance,
+                ..
             } = record
             else {
                 continue;

@@ -38,15 +38,17 @@ fn words(record: Record, text: &mut String) -> std::fmt::Result {
             style,
             country,
             advance,
+            rest,
         } => {
             write!(
                 text,
                 "TX column {column} row {row} byte {byte:02x} font {font:02x}"
             )?;
-            writeln!(
+            write!(
                 text,
                 " style {style:04x} country {country:02x} advance {advance}"
-            )
+            )?;
+            ended(rest, text)
         }
         Record::Im {
             column,
@@ -54,17 +56,27 @@ fn words(record: Record, text: &mut String) -> std::fmt::Result {
             byte,
             part,
             advance,
+            rest,
         } => {
             write!(text, "IM column {column} row {row} byte {byte:02x}")?;
             if part > 0 {
                 write!(text, " font {part:02x}")?;
             }
-            writeln!(text, " advance {advance}")
+            write!(text, " advance {advance}")?;
+            ended(rest, text)
         }
         Record::Ln { row, pages } => writeln!(text, "LN row {row} byte {pages}"),
         Record::Cl => writeln!(text, "CL"),
         Record::No { byte, reason } => writeln!(text, "NO byte {byte:02x} reason {reason}"),
     }
+}
+
+/// The rest, where there is one, and the line's end.
+fn ended(rest: i16, text: &mut String) -> std::fmt::Result {
+    if rest != 0 {
+        write!(text, " rest {rest}")?;
+    }
+    writeln!(text)
 }
 
 /// Begins an object, with the file's name if it is told.
@@ -93,11 +105,12 @@ fn fields(record: Record, dots: u32, text: &mut String) -> std::fmt::Result {
             byte,
             part,
             advance,
+            rest,
         } => {
             write!(text, "\"record\":\"IM\",\"column\":{column},\"row\":{row}")?;
             write!(
                 text,
-                ",\"byte\":{byte},\"part\":{part},\"advance\":{advance}"
+                ",\"byte\":{byte},\"part\":{part},\"advance\":{advance},\"rest\":{rest}"
             )?;
         }
         Record::Ln { row, pages } => {
@@ -122,6 +135,7 @@ fn letter(record: Record, dots: u32, text: &mut String) -> std::fmt::Result {
         style,
         country,
         advance,
+        rest,
         ..
     } = record
     {
@@ -129,7 +143,10 @@ fn letter(record: Record, dots: u32, text: &mut String) -> std::fmt::Result {
             text,
             ",\"font\":{font},\"style\":{style},\"country\":{country}"
         )?;
-        write!(text, ",\"advance\":{advance},\"character\":")?;
+        write!(
+            text,
+            ",\"advance\":{advance},\"rest\":{rest},\"character\":"
+        )?;
         let sign = character(byte, style, country, dots).0;
         quoted(sign.encode_utf8(&mut [0; 4]), text);
     }

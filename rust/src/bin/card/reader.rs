@@ -276,8 +276,8 @@ fn first_escape(input: &[u8]) -> usize {
 fn step(record: &[u8]) -> Option<u32> {
     let advance = |low, high| u32::from(u16::from_le_bytes([low, high]));
     match *record {
-        [b'T', b'X', .., low, high] => Some(advance(low, high)),
-        [b'I', b'M', _, _, _, _, _, 0 | 3, .., low, high] => Some(advance(low, high)),
+        [b'T', b'X', .., low, high, _, _] => Some(advance(low, high)),
+        [b'I', b'M', _, _, _, _, _, 0 | 3, .., low, high, _, _] => Some(advance(low, high)),
         [b'I', b'M', ..] => Some(0),
         _ => None,
     }

@@ -8,10 +8,10 @@ use Rattle.interpreter.proofs.letters.image_record.Tie as tie
 
 returns : tie.Need-returns
 returns c p v h =
-    let b = c .before .before .before in
+    let b = c .before .before .before .before .before in
     rw (
       c .before .row .ensures,
-      b .column .ensures,
+      b .across .ensures,
       b .before .before .setup-in .ensures ∙ setup-held h,
       across-held h,
       down-held h,

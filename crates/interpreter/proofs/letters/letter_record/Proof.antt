@@ -10,10 +10,10 @@ use Rattle.interpreter.proofs.letters.letter_record.Tie as tie
 returns : tie.Need-returns
 returns c p v h =
     let b = c .before .before .before .before in
-    let d = b .before .before in
+    let d = b .before .before .before .before in
     rw (
       b .row .ensures,
-      d .column .ensures,
+      d .across .ensures,
       d .before .before .setup-in .ensures ∙ setup-held h,
       across-held h,
       down-held h,

@@ -105,7 +105,7 @@ loop-again c =
           let g = l .loop .inv .0 x step b in
           rw (c .next-spot .ensures)
           (goes-on g b (a .pre .1 .0 .0) (a .pre .1 .1 .1 .1 .0) (i .loop-test .taken) (sym (f .before .prints .ensures) ∙ not-false _ (f .if1 .left))
-          (rw (d .whole-dots .ensures) at (w .before .like .ensures)) (rw end at wrote)),
+          (w .before .like .ensures) (rw end at wrote)),
       omega (arith, i .loop-test .taken, l .loop .inv .1, a .pre .1 .1 .1 .1 .1),
     )
 
@@ -132,6 +132,6 @@ pub place-all-spec : {M : Type 1} → statement M
 place-all-spec =
     tie.close
     (tie.spec Inv-loop μ-loop loop-holds (λ c. search needs) (λ c κs. search needs)
-    sub-left (λ c κs. search needs) like-requires write-record-requires next-spot-requires add-n add-at loop-less loop-again
+    sub-left like-requires write-record-requires next-spot-requires add-n add-at loop-less loop-again
     (λ c. same-length (c .before)) (λ c. ended (c .before))
     (λ c. same-length (c .before .before .before .before)) (λ c. ended (c .before .before .before .before)))

@@ -10,22 +10,29 @@ bounded : (c : tie.After-struct-known2) → c .before .before .args .at .0 * c .
 bounded c = product _ _ 4294967295 300 (omega arith) (c .before .before .pre)
 
 returns : tie.Need-returns
-returns c = rw (c .before .before .before .if1 .taken) (c .with-dots .ensures .0, (omega arith, c .with-dots .ensures .1))
+returns c =
+    let e = c .with-dots .ensures in
+    rw (c .before .before .before .if1 .taken) (rw (e .0, e .1), (e .0, (e .1, omega (arith, e .0))))
 
 mul-n : tie.Need-mul-n
 mul-n c = record { fits = omega (arith, bounded c) }
 
-add-n : tie.Need-add-n
-add-n c = record { fits = omega (arith, bounded c) }
+add-with-dots : tie.Need-add-with-dots
+add-with-dots c = record { fits = omega (arith, bounded c) }
 
 cast-with-dots-2 : tie.Need-cast-with-dots-2
 cast-with-dots-2 c = record { fits = omega (arith, bounded c) }
 
+with-dots-requires-2 : tie.Need-with-dots-requires-2
+with-dots-requires-2 c κs = (search needs, omega (arith, bounded c))
+
 returns-2 : tie.Need-returns-2
-returns-2 c = (c .with-dots2 .ensures .0, (omega (arith, bounded (c .before)), c .with-dots2 .ensures .1))
+returns-2 c =
+    let e = c .with-dots2 .ensures in
+    (rw (e .0, e .1), (e .0, (e .1, omega (arith, e .0, bounded (c .before)))))
 
 pub rounded-spec : {M : Type 1} → statement M
 rounded-spec =
     tie.close
-    (tie.spec (λ c. search needs) (λ c. search needs) (λ c. search needs) (λ c κs. search needs) (λ c κs. search needs) returns
-    (λ c. search needs) mul-n add-n cast-with-dots-2 (λ c κs. search needs) returns-2)
+    (tie.spec (λ c. search needs) (λ c. search needs) (λ c κs. search needs) (λ c κs. search needs) returns
+    (λ c. search needs) mul-n add-with-dots cast-with-dots-2 with-dots-requires-2 returns-2)
