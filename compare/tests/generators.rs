@@ -220,7 +220,7 @@ fn each_register_is_wrong_alone() {
 /// Whether a register has a meaning of its own, whatever is waited for: all but
 /// stops and the count of those gathered.
 fn not_in_a_list<T>((at, _): &(usize, T)) -> bool {
-    (0..42).contains(at) || (107..115).contains(at)
+    (0..43).contains(at) || (108..116).contains(at)
 }
 
 /// Gathered lists of both kinds, from empty to full, and anything at all in

@@ -151,8 +151,11 @@ fn registers_that_follow() {
     let all = [("superscript", 1), ("download", 1), ("double_height", 1)];
     assert_eq!(following(&all).0, 1 << 4 | 1 << 13 | 1 << 7);
     let mut state = power_on();
+    assert_eq!(follows(&state).advance_dots, 30);
     state.dots_across = 203;
     assert_eq!(follows(&state).dots_down, 200);
+    // 360 x 203 is 20 x 3,600 and 1,080
+    assert_eq!(follows(&state).advance_dots, 1_080 * 65_536 + 20);
 }
 
 /// Whether something waited for is accepted: kind, command and argument, and of
@@ -335,19 +338,19 @@ fn the_registers_of_channels() {
     assert_eq!(waiting(b"\x1Bb\x08"), [7, 0, 0, 0, 0, 0]);
     assert_eq!(waiting(b"\x1Bb\x08\x09"), [7, 0, 9, 0, 0, 0]);
     assert_eq!(waiting(b"\x1Bb\x08\x09\x09"), [0; 6]);
-    assert_eq!(after(b"\x1B/\x07").registers()[41], 7);
+    assert_eq!(after(b"\x1B/\x07").chosen, 7);
     for channel in 0..8 {
-        let numbers = after(&[0x1B, b'b', channel, 2, 5, 0]).registers();
-        let mut expected = power_on().registers();
+        let state = after(&[0x1B, b'b', channel, 2, 5, 0]);
+        let mut expected = power_on();
         let channel = usize::from(channel);
-        expected[108 + channel] = 3;
-        expected[116 + 16 * channel] = 1_200;
-        expected[117 + 16 * channel] = 3_000;
-        assert_eq!(numbers, expected);
-        let numbers = after(&[0x1B, b'b', channel as u8, 0]).registers();
-        let mut expected = power_on().registers();
-        expected[108 + channel] = 1;
-        assert_eq!(numbers, expected);
+        expected.channels.counts[channel] = 3;
+        expected.channels.stops[16 * channel] = 1_200;
+        expected.channels.stops[16 * channel + 1] = 3_000;
+        assert_eq!(state, expected);
+        let state = after(&[0x1B, b'b', channel as u8, 0]);
+        let mut expected = power_on();
+        expected.channels.counts[channel] = 1;
+        assert_eq!(state, expected);
     }
 }
 
