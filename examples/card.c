@@ -92,10 +92,11 @@ static const char *take_piece(list *list, escp_state *state, const uint8_t *inpu
     return problem_of(answer);
 }
 
-/* Whether a letter stands apart from the one before it, by more than a dot that rounding may give. */
+/* Whether a letter stands apart from the one before it, by their exact places. */
 static bool stands_apart(const escp_record *before, const escp_record *letter, uint32_t dots)
 {
-    return letter->column * 3600u > before->column * 3600u + before->advance * dots + 3600u;
+    uint32_t end = escp_place(before->column, before->rest, dots) + before->advance;
+    return escp_place(letter->column, letter->rest, dots) > end;
 }
 
 /* Prints the lines of letters, and how many image bytes there are. */

@@ -7,7 +7,7 @@
 //!                                 this width in 1/3600 inch
 //! ```
 
-use ierbulosc::{dot, records, slot, Answer, Record, Settings, State, ROOM};
+use ierbulosc::{dot, place, records, slot, Answer, Record, Settings, State, ROOM};
 use std::io::Read;
 use std::process::ExitCode;
 
@@ -17,11 +17,13 @@ const SLOTS: usize = 7;
 /// The row of a card in which the slots' numbers stand.
 const HEADING: u16 = 0;
 
-/// A letter of the page, its place in dots and its width in units.
+/// A letter of the page, its place in dots, with the rest across, and its width
+/// in units.
 #[derive(Clone, Copy)]
 struct Letter {
     byte: u8,
     column: u16,
+    rest: i16,
     row: u16,
     advance: u16,
 }
@@ -35,10 +37,12 @@ impl Letter {
                 row,
                 byte,
                 advance,
+                rest,
                 ..
             } => Some(Letter {
                 byte,
                 column,
+                rest,
                 row,
                 advance,
             }),
@@ -96,11 +100,10 @@ impl Page {
     }
 }
 
-/// Whether a letter stands apart from the one before it, by more than a dot
-/// that rounding may give.
+/// Whether a letter stands apart from the one before it, by their exact places.
 fn stands_apart(before: &Letter, letter: &Letter, dots: u32) -> bool {
-    let end = u32::from(before.column) * 3_600 + u32::from(before.advance) * dots;
-    u32::from(letter.column) * 3_600 > end + 3_600
+    let end = place(before.column, before.rest, dots) + u32::from(before.advance);
+    place(letter.column, letter.rest, dots) > end
 }
 
 fn main() -> ExitCode {
