@@ -1,5 +1,7 @@
 // The words of the command line, taken one by one: --dots N, --width N, --auto-feed, --help. Of two --dots or two --width the last holds;
 // after --help, or a word that is none of these, no other counts. The module `columns` has the words of `under`.
+#![tactic(auto)]
+
 pub mod columns;
 
 ghost use Rattle.std.specs.Prelude.{◌≡◌};

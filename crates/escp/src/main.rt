@@ -1,4 +1,6 @@
 // A program: ESC/P on standard input, a line of hex for each record on standard output.
+#![tactic(auto)]
+
 use command_line::{Choice, Options};
 use libc::{STDERR_FILENO, STDOUT_FILENO};
 use printer::answers::Answer;

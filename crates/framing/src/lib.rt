@@ -1,4 +1,6 @@
 // What a byte is between commands, and what an image waits for.
+#![tactic(auto)]
+
 pub mod codes;
 
 ghost use Rattle.std.specs.Prelude.{◌≡◌};

@@ -1,4 +1,6 @@
 // Records as text: for each a line of lower-case hex digits; and such a line read back.
+#![tactic(auto)]
+
 ghost use Rattle.std.specs.Prelude.{◌≡◌, ◌*◌, ◌<◌, min, length};
 ghost use Rattle.printer.specs.Records.{record_size};
 ghost use Rattle.hex_lines.specs.HexLines.{hex_digit, hex_line, line_size, count_of, text_of};

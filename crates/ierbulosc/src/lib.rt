@@ -1,4 +1,6 @@
 // The reader for C and Rust to link: its calls, on registers that the caller holds.
+#![tactic(auto)]
+
 ghost use Rattle.std.specs.Prelude.{◌≡◌};
 ghost use Rattle.ierbulosc.specs.Calls.{settings_in, EscpStartPromise, EscpReadPromise, EscpSlotPromise, EscpWritePromise};
 

@@ -1,5 +1,7 @@
 // Lengths in dots at 203 dots an inch, with no division: an inch is 203 dots exactly, so that whole inches come off by comparison, and the dots of the
 // rest stand in a table.
+#![tactic(auto)]
+
 ghost use Rattle.std.specs.Prelude.{◌≡◌, ◌+◌, ◌*◌, ◌≤◌, ◌<◌, [], get_or};
 ghost use Rattle.printer.specs.Units.{rounded};
 ghost use Rattle.inch.specs.Table.{rows};

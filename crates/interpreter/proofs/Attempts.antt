@@ -6,7 +6,7 @@ use mathlib.Core.List.{List, [], ◌∷◌}
 use native.Mathlib.Omega.{arith}
 use lib.Dec.{leb, ltb}
 use Rattle.printer.specs.Codes.{shows}
-use Rattle.printer.specs.Tools.{pick, ◌upTo◌, holds}
+use Rattle.printer.specs.Tools.{pick, ◌up_to◌, holds}
 use Rattle.printer.specs.Units.{units}
 use Rattle.printer.specs.Records.{passed_record}
 use Rattle.printer.specs.Settings.{relative_step, across_of}
@@ -63,7 +63,7 @@ module _ (p : Printer) (c : Command) (t : Bool) (n : ℕ) (h : holds (needs_at p
   keeps f o = attempt-passed p c 3 (h ∙ unreached t n f) o
 
 -- the needs of one of two orders
-one_of : (t : Bool) (a b c d : ℕ) → holds (pick t (◌upTo◌ a b ∷ []) (◌upTo◌ c d ∷ [])) ≡ pick t (leb a b) (leb c d)
+one_of : (t : Bool) (a b c d : ℕ) → holds (pick t (◌up_to◌ a b ∷ []) (◌up_to◌ c d ∷ [])) ≡ pick t (leb a b) (leb c d)
 one_of true a b c d = both_true (leb a b)
 one_of false a b c d = both_true (leb c d)
 

@@ -1,4 +1,6 @@
 // The calls on registers.
+#![tactic(auto)]
+
 mod controls;
 mod escapes;
 mod letters;

@@ -1,6 +1,6 @@
 // Perforation skip, page length and ESC @.
 ghost use Rattle.std.specs.Prelude.{◌≡◌, [], ◌∷◌, suc, ◌+◌, ◌*◌, ◌≤◌, length};
-ghost use Rattle.printer.specs.Tools.{within, ◌upTo◌, holds};
+ghost use Rattle.printer.specs.Tools.{within, ◌up_to◌, holds};
 ghost use Rattle.printer.specs.Units.{shortest_page};
 ghost use Rattle.printer.specs.Records.{record_size};
 ghost use Rattle.printer.specs.Performing.{done, page_units};

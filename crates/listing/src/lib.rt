@@ -1,4 +1,6 @@
 // ESC/P read from standard input, piece by piece, and a line for each record written to standard output: what the programs share.
+#![tactic(auto)]
+
 ghost use Rattle.std.specs.Prelude.{◌≤◌, length};
 ghost use Rattle.printer.specs.Promises.{ReadPromise};
 ghost use Rattle.listing.specs.Showing.{SomeShown, AllShown, FromInput, piece_size};

@@ -1,4 +1,6 @@
 // What is computed of the printer's types alone: dots, widths, the edge, stops, the bytes of records.
+#![tactic(auto)]
+
 pub mod encoding;
 pub mod paper;
 pub mod rounding;

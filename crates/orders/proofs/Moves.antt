@@ -6,7 +6,7 @@ use mathlib.Core.List.{List, [], ◌∷◌, ◌++◌}
 use native.Mathlib.Omega.{arith}
 use lib.Dec.{ltb}
 use borrow.Author.Tests.{ltb-true, ltb-false, lt-ltb, le-ltb, leb-true, le-leb}
-use Rattle.printer.specs.Tools.{pick, ◌upTo◌, holds}
+use Rattle.printer.specs.Tools.{pick, ◌up_to◌, holds}
 use Rattle.printer.specs.Settings.{left_of, right_of, relative_step, across_of, down_of, at}
 use Rattle.printer.specs.Records.{low, high}
 use Rattle.printer.specs.Performing.{done, passed, relative_move, with_parts, perform_all, records_all}

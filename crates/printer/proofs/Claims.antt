@@ -339,6 +339,10 @@ stepping-list g k before b e =
     (λ _. tries 3 (λ p. refl) (in_list k (ListPart.Byte b) g e) (λ s t. at-list k b _ e))
 
 stepping_framed : (g : Opened) (upper : Bool) (l : List ℕ) (f : Frame) → Framed upper l f → Stepping g f
+stepping_framed g upper l (Frame.Waits Waiting.Nothing) h = elim h [ ]
+stepping_framed g upper l (Frame.Waits Waiting.SecondByte) h = elim h [ ]
+stepping_framed g upper l (Frame.Waits (Waiting.StopList k b)) h = elim h [ ]
+stepping_framed g upper l (Frame.Waits (Waiting.ImageData m k n)) h = elim h [ ]
 stepping_framed g upper l (Frame.Waits (Waiting.Arguments w)) (begins e) = waits (at-arguments w)
 stepping_framed g upper l (Frame.Whole c w) (single e k x i rests) = other (apart c x i) at_rest
 stepping_framed g upper l (Frame.Whole c w) (single e k x i after_escape) = other (apart c x i) at_second

@@ -18,9 +18,9 @@ one_written s x y (feed pages) = omega arith
 one_written s x y clear = omega arith
 
 one_record : (p : Printer) (e : Event) → length (records_of p e) ≤ 1
-one_record p (done c n) = one_written p.settings p.place _ (effect_at p c n).writing
+one_record p (done c n) = one_written p.settings p.place (effect_at p c n).place (effect_at p c n).writing
 one_record p (passed c reason) = omega arith
-one_record p (inside c n) = one_written p.settings p.place _ (control_at p c n).writing
+one_record p (inside c n) = one_written p.settings p.place (control_at p c n).place (control_at p c n).writing
 one_record p (automatic n) = omega arith
 
 -- at most n records

@@ -8,7 +8,7 @@ use native.Mathlib.Omega.{arith}
 use native.Mathlib.Nat.{div-add-mod'}
 use lib.Dec.{leb, ltb, eqb}
 use borrow.Author.Tests.{leb-true, leb-false, ltb-true, ltb-false, le-leb, lt-leb, eq-eqb, ne_eqb}
-use Rattle.printer.specs.Tools.{pick, bit, within, ◌upTo◌, Holds}
+use Rattle.printer.specs.Tools.{pick, bit, within, ◌up_to◌, Holds}
 use Rattle.printer.specs.Widths.{image_bytes}
 use Rattle.printer.specs.Settings.{left_of, right_of, page_of, skip_of, line_of, edge_of, relative_step, across_of, down_of, held_in}
 use Rattle.printer.specs.Escapes.{switches, switched_on, mode_row, parameter_row, look_settings}
@@ -149,7 +149,7 @@ module _ (s : Settings) (t : Stops) (x : Place) (g : Opened) (q : t.channels.cho
 
 -- ESC J: less the pages times the edge
 feed_down : (s : Settings) (x : Place) (v m : ℕ) (j : Axis)
-    → Holds (◌upTo◌ m ((down_of x + 20 * v) / edge_of s) ∷ ◌upTo◌ ((down_of x + 20 * v) / edge_of s) m ∷ []) → WithinBounds s x → At j (down_of x)
+    → Holds (◌up_to◌ m ((down_of x + 20 * v) / edge_of s) ∷ ◌up_to◌ ((down_of x + 20 * v) / edge_of s) m ∷ []) → WithinBounds s x → At j (down_of x)
     → At (moved j (moves (20 * v + m * skip_of s) (m * page_of s))) ((down_of x + 20 * v) % edge_of s)
 feed_down s x v m j h f d =
     let e : m ≡ (down_of x + 20 * v) / edge_of s = omega arith in
@@ -168,7 +168,7 @@ follow-relative : (s : Settings) (t : Stops) (x : Place) (g : Opened) (a b : ℕ
 follow-relative s t x g a b k ha hb h e = go (ltb (a + 256 * b) 0x8000) refl h
   where
     go : (u : Bool) → ltb (a + 256 * b) 0x8000 ≡ u
-        → Holds (pick u (◌upTo◌ (across_of x + (a + 256 * b) * relative_step s) (right_of s) ∷ []) (◌upTo◌ (left_of s + (0x10000 - (a + 256 * b)) * relative_step s) (across_of x) ∷ []))
+        → Holds (pick u (◌up_to◌ (across_of x + (a + 256 * b) * relative_step s) (right_of s) ∷ []) (◌up_to◌ (left_of s + (0x10000 - (a + 256 * b)) * relative_step s) (across_of x) ∷ []))
         → At (moved k (relative_motion (force_of s t g) a b))
         (pick u (across_of x + (a + 256 * b) * relative_step s) (across_of x - (0x10000 - (a + 256 * b)) * relative_step s))
     go true u l = let v : a + 256 * b < 0x8000 = ltb-true _ _ u in rw (lt-leb 128 b (omega arith)) (omega arith)

@@ -8,7 +8,7 @@ use native.Mathlib.Nat.{mod-lt, div-add-mod', mul-le-mul_left}
 use lib.Dec.{ltb, eqb}
 use lib.ListN.{length, length-set}
 use borrow.Author.Tests.{leb-true}
-use Rattle.printer.specs.Tools.{pick, ◌upTo◌, Holds, Bytes}
+use Rattle.printer.specs.Tools.{pick, ◌up_to◌, Holds, Bytes}
 use Rattle.printer.specs.Widths.{base, double_width, advance, image_step, image_bytes}
 use Rattle.printer.specs.Settings.{left_of, right_of, edge_of, relative_step, across_of, down_of, at}
 use Rattle.printer.specs.PowerOn.{no_stops}
@@ -129,7 +129,7 @@ keep-relative : (s : Settings) (x : Place) (n : ℕ) → Holds (relative_needs s
 keep-relative s x n h f = go (ltb n 0x8000) h
   where
     go : (t : Bool)
-        → Holds (pick t (◌upTo◌ (across_of x + n * relative_step s) (right_of s) ∷ []) (◌upTo◌ (left_of s + (0x10000 - n) * relative_step s) (across_of x) ∷ []))
+        → Holds (pick t (◌up_to◌ (across_of x + n * relative_step s) (right_of s) ∷ []) (◌up_to◌ (left_of s + (0x10000 - n) * relative_step s) (across_of x) ∷ []))
         → WithinBounds s (at (pick t (across_of x + n * relative_step s) (across_of x - (0x10000 - n) * relative_step s)) (down_of x))
     go true k = omega arith
     go false k = omega arith

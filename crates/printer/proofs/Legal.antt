@@ -9,7 +9,7 @@ use native.Mathlib.Numerals.{add-one}
 use lib.ListN.{length, get_or, length-append}
 use lib.Seq.{get_or-append_seam, append_snoc}
 use borrow.Author.Tests.{leb-true, leb-false, ltb-true, eqb-true, eqb-false}
-use Rattle.printer.specs.Tools.{both, within, ◌upTo◌, holds, Holds, Bytes}
+use Rattle.printer.specs.Tools.{both, within, ◌up_to◌, holds, Holds, Bytes}
 use Rattle.printer.specs.Units.{per_inch_across, per_inch_down}
 use Rattle.printer.specs.Widths.{advance, image_step, image_bytes}
 use Rattle.printer.specs.Settings.{across_of, left_of, right_of, paper_width_of, page_of, skip_of, line_of, edge_of, down_of, held_in, channel_count, chosen_stops}
@@ -145,7 +145,7 @@ LegalAll p (e ∷ l) = Legal p e × LegalAll (perform p e) l
 -- The ways to decide
 
 -- an order that does not hold
-over : (low high : ℕ) → holds (◌upTo◌ low high ∷ []) ≡ false → high < low
+over : (low high : ℕ) → holds (◌up_to◌ low high ∷ []) ≡ false → high < low
 over low high e = go (leb low high) refl e
   where
     go : (t : Bool) → leb low high ≡ t → both t true ≡ false → high < low

@@ -3,7 +3,7 @@ use Prim.Native.Nat.{ℕ, suc, ◌≤◌}
 use mathlib.Core.Path.{◌≡◌}
 use mathlib.Core.List.{List, [], ◌∷◌}
 use native.Mathlib.Omega.{arith}
-use lib.ListN.{length, get_or, length-map}
+use lib.ListN.{length, get_or}
 use mir.Val.{Val}
 use denote.Builtin.{u8}
 use denote.Laws.{Is}
@@ -29,11 +29,11 @@ known_bytes [] h = tt
 known_bytes (b ∷ l) h = (h 0, known_bytes l (λ i. h (suc i)))
 
 list : (l : TabStops) {vs : List Val} → Is T.the_row l vs → length l.stops ≡ 32
-list l h = simp length-map at h.1.1.0.1.0.1
+list l h = h.1.1.0.1.0.1
 
 -- those of the channels
 arrays : (c : Channels) {vs : List Val} → Is C.the_row c vs → (length c.stops ≡ 128) × (length c.counts ≡ 8)
-arrays c h = (simp length-map at h.1.1.0.1.0.1, simp length-map at h.1.1.1.0.1.0.1)
+arrays c h = (h.1.1.0.1.0.1, h.1.1.1.0.1.0.1)
 
 stops_typed : (t : Stops) {vs : List Val} → Is S.the_row t vs → StopsTyped t
 stops_typed t h =

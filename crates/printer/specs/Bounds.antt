@@ -1,6 +1,6 @@
 -- Document 01, 'At every moment': what a state of ours is, as orders between numbers. Resolution, pitch and the command waited for are so by type.
 use Rattle.std.specs.Prelude.{ℕ, zero, suc, ◌+◌, Bool, List, [], ◌∷◌, ◌++◌}
-use Rattle.printer.specs.Tools.{both, Order, ◌upTo◌, passes, holds}
+use Rattle.printer.specs.Tools.{both, Order, ◌up_to◌, passes, holds}
 use Rattle.printer.specs.Units.{narrowest_paper, widest_paper, shortest_page, longest_page}
 use Rattle.printer.specs.Widths.{image_bytes}
 use Rattle.printer.specs.Settings.{left_of, right_of, paper_width_of, page_of, skip_of, line_of, edge_of, across_of, down_of, held_in, channel_stops}

@@ -1,6 +1,6 @@
 -- Document 01, 'Widths' and 'Commands': which commands are done and which are passed over.
 use Rattle.std.specs.Prelude.{ℕ, zero, suc, ◌+◌, ◌*◌, ◌-◌, ◌/◌, Bool, true, false, List, [], ◌∷◌, leb, ltb, eqb}
-use Rattle.printer.specs.Tools.{pick, within, Order, ◌upTo◌, passes, holds}
+use Rattle.printer.specs.Tools.{pick, within, Order, ◌up_to◌, passes, holds}
 use Rattle.printer.specs.Units.{units, shortest_page, longest_page}
 use Rattle.printer.specs.Widths.{image_step}
 use Rattle.printer.specs.Settings.{left_of, right_of, paper_width_of, page_of, line_of, edge_of, relative_step, advance_of, column_of, across_of, down_of, held_in, channel_count, chosen_stops}

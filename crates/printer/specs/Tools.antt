@@ -26,9 +26,9 @@ pub record Order : Type 0 where
   pub low : ℕ
   pub high : ℕ
 
-infix 50 ◌upTo◌
-abbrev pub ◌upTo◌ : ℕ → ℕ → Order
-◌upTo◌ a b = record { low = a; high = b }
+infix 50 ◌up_to◌
+abbrev pub ◌up_to◌ : ℕ → ℕ → Order
+◌up_to◌ a b = record { low = a; high = b }
 
 -- a test as an order: it holds just if the test is true
 abbrev pub passes : Bool → Order

@@ -4,7 +4,7 @@ ghost use Rattle.printer.specs.Calls.{number_of};
 
 use crate::state::Printer;
 
-#[derive(Drop)]
+#[derive(Clone, Copy)]
 pub enum Answer {
     InputUsed,
     AllowanceUsed,
@@ -36,7 +36,7 @@ pub struct Started {
 }
 
 // What a reading call reports: its answer, and how many bytes it read and wrote.
-#[derive(Drop)]
+#[derive(Clone, Copy)]
 pub struct Report {
     pub answer: Answer,
     pub read: usize,

@@ -3,7 +3,7 @@
 use crate::settings::Pitch;
 
 // The control bytes that are commands.
-#[derive(Drop)]
+#[derive(Clone, Copy)]
 pub enum Control {
     CarriageReturn,
     LineFeed,
@@ -18,7 +18,7 @@ pub enum Control {
 }
 
 // The escapes without an argument that change more than how a record looks: ESC 0 2 O P M g 6 7.
-#[derive(Drop)]
+#[derive(Clone, Copy)]
 pub enum Mode {
     EighthInchLine,
     SixthInchLine,
@@ -28,7 +28,7 @@ pub enum Mode {
 }
 
 // The escapes with one argument byte that do: ESC 3 A + SP p x W !.
-#[derive(Drop)]
+#[derive(Clone, Copy)]
 pub enum Parameter {
     Line180ths,
     Line60ths,
@@ -41,7 +41,7 @@ pub enum Parameter {
 }
 
 // The escapes without an argument that only show on a letter's record: ESC E F G H 4 5 T.
-#[derive(Drop)]
+#[derive(Clone, Copy)]
 pub enum Switch {
     Bold(bool),
     DoubleStrike(bool),
@@ -50,7 +50,7 @@ pub enum Switch {
 }
 
 // The escapes with one argument byte that only show on a letter's record: ESC S - w q t k R %.
-#[derive(Drop)]
+#[derive(Clone, Copy)]
 pub enum Choice {
     Script,
     Underline,
@@ -63,14 +63,14 @@ pub enum Choice {
 }
 
 // What changes only how a letter's record looks.
-#[derive(Drop)]
+#[derive(Clone, Copy)]
 pub enum Look {
     Switch(Switch),
     Choice(Choice, u8),
 }
 
 // The image commands that name no mode: ESC K L Y Z.
-#[derive(Drop)]
+#[derive(Clone, Copy)]
 pub enum Density {
     Single,
     Double,
@@ -79,7 +79,7 @@ pub enum Density {
 }
 
 // The modes of images: 0 to 4 and 6, of eight dots a column, and 32, 33, 38, 39 and 40, of twenty-four.
-#[derive(Drop)]
+#[derive(Clone, Copy)]
 pub enum ImageMode {
     Single,
     Double,
@@ -95,77 +95,77 @@ pub enum ImageMode {
 }
 
 // The mode that ESC * selects.
-#[derive(Drop)]
+#[derive(Clone, Copy)]
 pub enum Selected {
     Mode(ImageMode),
     Unlisted,
 }
 
 // What opens an image: ESC K, L, Y, Z; or ESC * and a mode.
-#[derive(Drop)]
+#[derive(Clone, Copy)]
 pub enum Opening {
     Named(Density),
     Selected(ImageMode),
 }
 
 // The escapes that open a stop list by themselves: ESC D, ESC B.
-#[derive(Drop)]
+#[derive(Clone, Copy)]
 pub enum Tabs {
     Horizontal,
     Vertical,
 }
 
 // What opens a stop list: ESC D, ESC B; or ESC b and a channel.
-#[derive(Drop)]
+#[derive(Clone, Copy)]
 pub enum ListOpening {
     Named(Tabs),
     Channel(u8),
 }
 
 // What a stop list sets: the columns, or a vertical channel.
-#[derive(Drop)]
+#[derive(Clone, Copy)]
 pub enum Target {
     Columns,
     Channel(u8),
 }
 
 // A stop list that is read: it sets stops, or it is dropped.
-#[derive(Drop)]
+#[derive(Clone, Copy)]
 pub enum Listing {
     Sets(Target),
     Dropped,
 }
 
 // The margins: ESC l, ESC Q.
-#[derive(Drop)]
+#[derive(Clone, Copy)]
 pub enum Side {
     Left,
     Right,
 }
 
 // The page lengths: ESC C n, ESC C 0 n.
-#[derive(Drop)]
+#[derive(Clone, Copy)]
 pub enum Page {
     Lines(u8),
     Inches(u8),
 }
 
 // The moves by two argument bytes: ESC $, ESC \.
-#[derive(Drop)]
+#[derive(Clone, Copy)]
 pub enum Move {
     Absolute,
     Relative,
 }
 
 // The bytes of a stop list: one that does not end it, and the one that does.
-#[derive(Drop)]
+#[derive(Clone, Copy)]
 pub enum ListPart {
     Byte(u8),
     End(u8),
 }
 
 // What is passed over in every state.
-#[derive(Drop)]
+#[derive(Clone, Copy)]
 pub enum Refused {
     // A control byte that is not listed, or 7Fh.
     Byte(u8),
@@ -180,7 +180,7 @@ pub enum Refused {
 }
 
 // What is done and changes nothing.
-#[derive(Drop)]
+#[derive(Clone, Copy)]
 pub enum Silent {
     // The byte that begins an escape.
     Escape(u8),
@@ -191,7 +191,7 @@ pub enum Silent {
 }
 
 // A whole command, with its bytes as received.
-#[derive(Drop)]
+#[derive(Clone, Copy)]
 pub enum Command {
     // A byte that prints.
     Letter(u8),
@@ -228,7 +228,7 @@ pub enum Command {
 }
 
 // The escapes with one argument.
-#[derive(Drop)]
+#[derive(Clone, Copy)]
 pub enum One {
     Parameter(Parameter),
     Choice(Choice),
@@ -239,14 +239,14 @@ pub enum One {
 }
 
 // The escapes with two arguments.
-#[derive(Drop)]
+#[derive(Clone, Copy)]
 pub enum Two {
     Move(Move),
     Image(Density),
 }
 
 // An escape with arguments still to come, and those so far.
-#[derive(Drop)]
+#[derive(Clone, Copy)]
 pub enum Begun {
     // The one argument.
     One(One),
@@ -272,7 +272,7 @@ pub enum Begun {
 }
 
 // What the reader is still waiting for.
-#[derive(Drop)]
+#[derive(Clone, Copy)]
 pub enum Waiting {
     Nothing,
     // An escape's second byte.
@@ -286,7 +286,7 @@ pub enum Waiting {
 }
 
 // What a control byte is.
-#[derive(Drop)]
+#[derive(Clone, Copy)]
 pub enum First {
     Control(Control),
     Escape,
@@ -294,7 +294,7 @@ pub enum First {
 }
 
 // What an escape's second byte is.
-#[derive(Drop)]
+#[derive(Clone, Copy)]
 pub enum Second {
     Control(Control),
     Reset,
@@ -306,7 +306,7 @@ pub enum Second {
 }
 
 // A byte read: it is waited on, or a command is whole.
-#[derive(Drop)]
+#[derive(Clone, Copy)]
 pub enum Frame {
     Waits(Waiting),
     Whole(Command, Waiting),

@@ -1,4 +1,6 @@
 // The printer that the reader stands in for: its types, and its state at power-on.
+#![tactic(auto)]
+
 pub mod answers;
 pub mod commands;
 pub mod records;

@@ -1,7 +1,7 @@
 // The records that are written.
 use crate::units::{Dots, Rest, Units};
 
-#[derive(Drop)]
+#[derive(Clone, Copy)]
 pub enum Mark {
     Tx,
     Im,
@@ -10,7 +10,7 @@ pub enum Mark {
     No,
 }
 
-#[derive(Drop)]
+#[derive(Clone, Copy)]
 pub struct Record {
     pub mark: Mark,
     pub column: Dots,

@@ -2,7 +2,7 @@
 use crate::units::{Resolution, Units};
 
 // What a start is asked for, as received.
-#[derive(Drop)]
+#[derive(Clone, Copy)]
 pub struct StartSettings {
     pub resolution: u32,
     pub autofeed: bool,
@@ -10,14 +10,14 @@ pub struct StartSettings {
 }
 
 // What ESC @ keeps: the settings of the start. `width` is that of the paper.
-#[derive(Drop)]
+#[derive(Clone, Copy)]
 pub struct Setup {
     pub resolution: Resolution,
     pub autofeed: bool,
     pub width: Units,
 }
 
-#[derive(Drop)]
+#[derive(Clone, Copy)]
 pub enum Pitch {
     Cpi10,
     Cpi12,
@@ -25,7 +25,7 @@ pub enum Pitch {
 }
 
 // What the width of a letter depends on. `wide` is ESC W 1, `wideonce` is SO.
-#[derive(Drop)]
+#[derive(Clone, Copy)]
 pub struct Width {
     pub pitch: Pitch,
     pub spacing: u8,
@@ -35,7 +35,7 @@ pub struct Width {
     pub proportional: bool,
 }
 
-#[derive(Drop)]
+#[derive(Clone, Copy)]
 pub struct Emphasis {
     pub bold: bool,
     pub doublestrike: bool,
@@ -43,14 +43,14 @@ pub struct Emphasis {
     pub underline: bool,
 }
 
-#[derive(Drop)]
+#[derive(Clone, Copy)]
 pub struct Script {
     pub superscript: bool,
     pub subscript: bool,
 }
 
 // What else a letter's record shows. `outline` is the ESC q number.
-#[derive(Drop)]
+#[derive(Clone, Copy)]
 pub struct Face {
     pub font: u8,
     pub country: u8,
@@ -60,14 +60,14 @@ pub struct Face {
     pub download: bool,
 }
 
-#[derive(Drop)]
+#[derive(Clone, Copy)]
 pub struct Margins {
     pub left: Units,
     pub right: Units,
 }
 
 // Page length, perforation skip and line amount.
-#[derive(Drop)]
+#[derive(Clone, Copy)]
 pub struct Paper {
     pub page: Units,
     pub skip: Units,
@@ -75,7 +75,7 @@ pub struct Paper {
 }
 
 // `draft` is ESC x 0; `upperprints` is ESC 6: 80h to 9Fh are letters.
-#[derive(Drop)]
+#[derive(Clone, Copy)]
 pub struct Settings {
     pub setup: Setup,
     pub width: Width,

@@ -7,7 +7,7 @@ use crate::settings::{Emphasis, Face, Margins, Paper, Pitch, Script, Settings, S
 use crate::stops::{Channels, Stops, TabStops};
 use crate::units::Units;
 
-#[derive(Drop)]
+#[derive(Clone, Copy)]
 pub struct Place {
     pub across: Units,
     pub down: Units,

@@ -25,7 +25,7 @@ pub struct Stops {
 }
 
 // What a search among stops finds: the stop's number, counted from 1, and where it is.
-#[derive(Drop)]
+#[derive(Clone, Copy)]
 pub enum Stop {
     Found(u32, Units),
     Missing,

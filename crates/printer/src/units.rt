@@ -1,25 +1,25 @@
 // Lengths in units and in dots.
 
 // A length in units of 1/3600 inch.
-#[derive(Drop)]
+#[derive(Clone, Copy)]
 pub struct Units(pub u32);
 
 // A length in printer dots.
-#[derive(Drop)]
+#[derive(Clone, Copy)]
 pub struct Dots(pub u32);
 
 // How far a length is past its dots, in 1/3600 dot: a signed number of 16 bits, held as a word.
-#[derive(Drop)]
+#[derive(Clone, Copy)]
 pub struct Rest(pub u16);
 
 // What the rounding rule gives of a length: its dots and the rest.
-#[derive(Drop)]
+#[derive(Clone, Copy)]
 pub struct Rounded {
     pub dot: Dots,
     pub rest: Rest,
 }
 
-#[derive(Drop)]
+#[derive(Clone, Copy)]
 pub enum Resolution {
     Dots300,
     Dots203,

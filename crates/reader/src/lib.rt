@@ -1,4 +1,6 @@
 // The calls: the start, and reading with the state by value or lent.
+#![tactic(auto)]
+
 ghost use Rattle.std.specs.Prelude.{◌≡◌};
 ghost use Rattle.printer.specs.Calls.{started_with};
 ghost use Rattle.printer.specs.Promises.{StartPromise, ReadPromise, LentPromise};

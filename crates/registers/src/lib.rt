@@ -1,4 +1,6 @@
 // The state as registers: numbers at fixed places in memory that is lent.
+#![tactic(auto)]
+
 pub mod derived;
 pub mod groups;
 pub mod pack;

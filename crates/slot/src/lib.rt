@@ -1,4 +1,6 @@
 // What stands under a slot now: of the letters that survive on the present page, the last whose column lies from one column to another.
+#![tactic(auto)]
+
 ghost use Rattle.std.specs.Prelude.{◌≡◌, ◌+◌, ◌*◌, ◌≤◌, eqb, length};
 ghost use Rattle.printer.specs.Tools.{both};
 ghost use Rattle.printer.specs.Records.{record_size};

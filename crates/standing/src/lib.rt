@@ -1,4 +1,6 @@
 // What stands under a slot, kept record by record: of all the records so far at most two are held.
+#![tactic(auto)]
+
 pub mod text;
 
 ghost use Rattle.std.specs.Prelude.{◌≡◌};

@@ -1,4 +1,6 @@
 // A program: records as lines of hex on standard input; on standard output, at the end, the line of the record that stands under a slot.
+#![tactic(auto)]
+
 ghost use Rattle.std.specs.Prelude.{◌≤◌};
 ghost use Rattle.standing.specs.Text.{FromInput, lines_of};
 

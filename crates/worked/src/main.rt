@@ -3,6 +3,8 @@
 // A case is: dots an inch, the allowance and the output length of a reading call, the length of the input, the width of the paper (two bytes
 // each, low byte first), automatic line feed (0 or 1), the input. It is read by calls until all is read or one reads nothing; what each of them read is read again
 // by a call for each byte, and in two parts by calls to which the state is lent.
+#![tactic(auto)]
+
 ghost use Rattle.std.specs.Prelude.{◌≤◌, length};
 
 use libc::{STDIN_FILENO, STDOUT_FILENO};

@@ -1,6 +1,6 @@
 -- Document 02, E10: what a card is written by, and when it is refused.
 use Rattle.std.specs.Prelude.{ℕ, zero, suc, ◌+◌, ◌-◌, ◌*◌, ◌/◌, ◌%◌, List, [], ◌∷◌, ◌++◌, leb, eqb, length, drop, get_or}
-use Rattle.printer.specs.Tools.{pick, Order, ◌upTo◌, holds}
+use Rattle.printer.specs.Tools.{pick, Order, ◌up_to◌, holds}
 use Rattle.printer.specs.Records.{low, high}
 use Rattle.writer.specs.declared.CardAnswer.{CardAnswer}
 use Rattle.writer.specs.declared.CardReport.{CardReport}

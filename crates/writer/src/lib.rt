@@ -1,4 +1,6 @@
 // Writes a card: letters with their places in units, as ESC/P that the reader places there.
+#![tactic(auto)]
+
 mod letters;
 mod output;
 

@@ -3,7 +3,7 @@ use Prim.Native.Nat.{suc, ◌+◌, ◌*◌}
 use mathlib.Core.Path.{◌≡◌, refl, sym, ◌∙◌}
 use mathlib.Core.List.{[], ◌∷◌}
 use native.Mathlib.Omega.{arith}
-use Rattle.printer.specs.Tools.{◌upTo◌}
+use Rattle.printer.specs.Tools.{◌up_to◌}
 use Rattle.printer.specs.Records.{style_of}
 use Rattle.printer.specs.Settings.{line_of}
 use Rattle.printer.specs.declared.commands.Command.{Command}
