@@ -93,20 +93,20 @@ putting c v b a i r = record { value = v; bytes = b; accepted = a; item = i; res
 
 puts : (c : Setting) → Puts c
 unfolding items with
-puts (look (Look.Switch (Switch.Bold on))) = putting _ (flag on) refl refl (λ s. refl) (λ s l. refl)
-puts (look (Look.Switch (Switch.DoubleStrike on))) = putting _ (flag on) refl refl (λ s. refl) (λ s l. refl)
-puts (look (Look.Switch (Switch.Italic on))) = putting _ (flag on) refl refl (λ s. refl) (λ s l. refl)
-puts (look (Look.Switch Switch.NoScript)) = putting _ (levels (script_of false false)) refl refl (λ s. refl) (λ s l. refl)
+puts (look (Look.Switch (Switch.Bold on))) = putting (look (Look.Switch (Switch.Bold on))) (flag on) refl refl (λ s. refl) (λ s l. refl)
+puts (look (Look.Switch (Switch.DoubleStrike on))) = putting (look (Look.Switch (Switch.DoubleStrike on))) (flag on) refl refl (λ s. refl) (λ s l. refl)
+puts (look (Look.Switch (Switch.Italic on))) = putting (look (Look.Switch (Switch.Italic on))) (flag on) refl refl (λ s. refl) (λ s l. refl)
+puts (look (Look.Switch Switch.NoScript)) = putting (look (Look.Switch Switch.NoScript)) (levels (script_of false false)) refl refl (λ s. refl) (λ s l. refl)
 puts (look (Look.Choice Choice.Script n)) =
-    putting _ (levels (script_of (pick (switched_on n) false true) (switched_on n))) refl refl (λ s. refl) (λ s l. refl)
-puts (look (Look.Choice Choice.Underline n)) = putting _ (flag (switched_on n)) refl refl (λ s. refl) (λ s l. refl)
-puts (look (Look.Choice Choice.DoubleHeight n)) = putting _ (flag (switched_on n)) refl refl (λ s. refl) (λ s l. refl)
-puts (look (Look.Choice Choice.Outline n)) = putting _ (number n) refl refl (λ s. refl) (λ s l. refl)
-puts (look (Look.Choice Choice.CodeTable n)) = putting _ (flag (eqb n 0)) refl refl (λ s. refl) (λ s l. refl)
-puts (look (Look.Choice Choice.Font n)) = putting _ (number n) refl refl (λ s. refl) (λ s l. refl)
-puts (look (Look.Choice Choice.Country n)) = putting _ (number n) refl refl (λ s. refl) (λ s l. refl)
-puts (look (Look.Choice Choice.Download n)) = putting _ (flag (switched_on n)) refl refl (λ s. refl) (λ s l. refl)
-puts (spacing n) = putting _ (number (n % 128)) refl refl (λ s. refl) (λ s l. refl)
+    putting (look (Look.Choice Choice.Script n)) (levels (script_of (pick (switched_on n) false true) (switched_on n))) refl refl (λ s. refl) (λ s l. refl)
+puts (look (Look.Choice Choice.Underline n)) = putting (look (Look.Choice Choice.Underline n)) (flag (switched_on n)) refl refl (λ s. refl) (λ s l. refl)
+puts (look (Look.Choice Choice.DoubleHeight n)) = putting (look (Look.Choice Choice.DoubleHeight n)) (flag (switched_on n)) refl refl (λ s. refl) (λ s l. refl)
+puts (look (Look.Choice Choice.Outline n)) = putting (look (Look.Choice Choice.Outline n)) (number n) refl refl (λ s. refl) (λ s l. refl)
+puts (look (Look.Choice Choice.CodeTable n)) = putting (look (Look.Choice Choice.CodeTable n)) (flag (eqb n 0)) refl refl (λ s. refl) (λ s l. refl)
+puts (look (Look.Choice Choice.Font n)) = putting (look (Look.Choice Choice.Font n)) (number n) refl refl (λ s. refl) (λ s l. refl)
+puts (look (Look.Choice Choice.Country n)) = putting (look (Look.Choice Choice.Country n)) (number n) refl refl (λ s. refl) (λ s l. refl)
+puts (look (Look.Choice Choice.Download n)) = putting (look (Look.Choice Choice.Download n)) (flag (switched_on n)) refl refl (λ s. refl) (λ s l. refl)
+puts (spacing n) = putting (spacing n) (number (n % 128)) refl refl (λ s. refl) (λ s l. refl)
 
 -- settings are what their items hold, and the rest
 itself : (s : Settings) → with s (items s) ≡ s

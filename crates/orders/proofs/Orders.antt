@@ -1,13 +1,11 @@
 -- The commands of the items as sent: one, and several one after the other.
-use Prim.Native.Nat.{ℕ}
 use mathlib.Core.Path.{◌≡◌, refl, sym, ap, ◌∙◌}
 use mathlib.Core.Bool.{true}
-use mathlib.Core.List.{List, [], ◌∷◌, ◌++◌}
+use mathlib.Core.List.{List, [], ◌∷◌}
 use Rattle.printer.specs.Tools.{Each}
 use Rattle.printer.specs.Performing.{done, with_parts, perform_all, records_all}
 use Rattle.printer.specs.Deciding.{ranged, decide}
 use Rattle.printer.specs.Steps.{wait_for, state_after, records_over}
-use Rattle.printer.specs.declared.commands.Choice.{Choice}
 use Rattle.printer.specs.declared.commands.Look.{Look}
 use Rattle.printer.specs.declared.commands.One.{One}
 use Rattle.printer.specs.declared.commands.Parameter.{Parameter}
