@@ -4,11 +4,11 @@ use mathlib.Core.Path.{◌≡◌, refl}
 use mathlib.Core.Bool.{Bool, true, false}
 use mathlib.Core.List.{List, [], ◌∷◌, ◌++◌}
 use native.Mathlib.Omega.{arith}
-use lib.Dec.{ltb, eqb}
+use lib.Dec.{eqb}
 use lib.ListN.{length, replicate}
 use Rattle.printer.specs.Tools.{pick, Each, Bytes}
 use Rattle.printer.specs.Units.{narrowest_paper, widest_paper}
-use Rattle.printer.specs.Records.{record_size, room_for_byte, encoded_all}
+use Rattle.printer.specs.Records.{record_size, encoded_all}
 use Rattle.printer.specs.Decoding.{FitsBytes}
 use Rattle.printer.specs.Steps.{records_over, step_of, step_records}
 use Rattle.printer.specs.PowerOn.{power_on}

@@ -4,7 +4,6 @@ use mathlib.Core.Path.{sym, ◌≡◌, refl, ap, ◌∙◌}
 use mathlib.Core.Bool.{true}
 use mathlib.Core.List.{List, [], ◌∷◌, ◌++◌, append_assoc}
 use native.Mathlib.Omega.{arith}
-use lib.Dec.{ltb}
 use lib.ListN.{length, length-append, take, drop, take-append-drop}
 use borrow.Author.Tests.{le-ltb, ltb-false}
 use Rattle.printer.specs.Records.{record_size, room_for_byte, encoded_all}

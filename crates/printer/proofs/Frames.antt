@@ -1,6 +1,6 @@
 -- What a byte is, after nothing, an escape's first byte or arguments so far: one analysis of its frame, for every law about frames.
 use Prim.Native.Nat.{ℕ, ◌+◌, ◌*◌, ◌≤◌, ◌<◌}
-use mathlib.Core.Path.{◌≡◌, sym, refl, ◌∙◌}
+use mathlib.Core.Path.{◌≡◌, sym, refl}
 use mathlib.Core.Bool.{Bool, true, false}
 use mathlib.Core.List.{List, [], ◌∷◌, ◌++◌, map}
 use mathlib.Core.Logic.{◌⊎◌, inl, inr, ⊎_elim}
@@ -13,7 +13,7 @@ use Rattle.printer.specs.Escapes.{modes, looks, parameters, choices}
 use Rattle.printer.specs.Codes.{control_code, one_code, two_code, begun_by, first_code, second_code, selected_number, firsts, seconds, plain_escapes, argument_escapes, other_escapes, image_modes, spelt}
 use Rattle.printer.specs.Framing.{is_letter, read_as, controls, escapes, selections, first_of, second_of, selected_of, one_command, two_command, after_two, opened_mode, image_wait, list_opened, first_frame, second_frame, advanced_frame, mode_frame, selected_frame, continued, frame}
 use Rattle.printer.specs.Deciding.{reason_of}
-use Rattle.printer.specs.Spelling.{pending, among, listed_controls, listed_escapes, listed_image_modes, StandsFor, Unlisted, Begins, Classified}
+use Rattle.printer.specs.Spelling.{among, listed_controls, listed_escapes, listed_image_modes, StandsFor, Unlisted, Begins, Classified}
 use Rattle.printer.specs.Types.{Begun, Command, Control, First, Frame, ImageMode, Listing, ListOpening, ListPart, Look, One, Opening, Page, Refused, Second, Selected, Silent, Two, Waiting}
 use Rattle.printer.proofs.Choices.{pick_elim, either_elim, either_left, either-right, within_fact}
 use Rattle.printer.proofs.Listed.{found}

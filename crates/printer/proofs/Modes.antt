@@ -1,5 +1,5 @@
 -- Between what the numbers of every image mode are: one table for all that asks for it.
-use Prim.Native.Nat.{ℕ, ◌≤◌}
+use Prim.Native.Nat.{◌≤◌}
 use native.Mathlib.Omega.{arith}
 use Rattle.printer.specs.Widths.{image_step, image_bytes}
 use Rattle.printer.specs.Codes.{image_mode_number}

@@ -1,5 +1,5 @@
 -- A state of ours, as facts: the bounds that answer 4 tests, and what every value of the declared types has.
-use Rattle.std.specs.Prelude.{ℕ, ◌≤◌, ◌≡◌, length}
+use Rattle.std.specs.Prelude.{◌≤◌, ◌≡◌, length}
 use Rattle.printer.specs.Tools.{Holds, Bytes}
 use Rattle.printer.specs.PowerOn.{stop_room}
 use Rattle.printer.specs.Codes.{begun_by}
