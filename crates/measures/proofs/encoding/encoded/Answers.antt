@@ -2,12 +2,10 @@
 use Prim.Native.Nat.{ℕ, ◌+◌, ◌*◌, ◌/◌, ◌%◌, ◌≤◌}
 use mathlib.Core.Path.{◌≡◌}
 use native.Mathlib.Omega.{arith}
-use borrow.Author.Rules.{rules}
 use Rattle.printer.specs.Records.{encoded}
 use Rattle.printer.specs.declared.records.Record.{Record}
 use Rattle.measures.specs.Encoding.{with_look}
-use Rattle.measures.proofs.encoding.encoded.Statement.{statement}
-use Rattle.measures.proofs.encoding.encoded.Tie as tie
+use Rattle.measures.proofs.encoding.encoded.Goals as goal
 
 module _ (s c : ℕ) (hs : s ≤ 65535) (hc : c ≤ 255) where
   b0 : (s + 65536 * c) % 256 ≡ s % 256
@@ -29,10 +27,5 @@ look_bytes r hs hc =
     let c = r.country in
     rw (b0 s c hs hc, b1 s c hs hc, b2 s c hs hc, b3 s c hs hc)
 
-returns : tie.Need-returns
-returns c =
-    let a = c.before.before in
-    rw (c.with-look.ensures, c.before.look-of.ensures) (look_bytes a.args.r (omega arith) (omega arith))
-
-pub encoded-spec : {M : Type 1} → statement M
-encoded-spec = tie.close (tie.spec (λ c κs. search rules) (λ c κs. search rules) returns)
+pub returns : goal.returns
+returns c = rw (c.with_look.ensures, c.look_of.ensures) (look_bytes c.args.r (omega arith) (omega arith))
