@@ -1,7 +1,7 @@
 /*
  * Ierbulosc: reads the ESC/P legacy page language. Bytes come in, placed records come out.
  *
- * The library is target/staticlib/libierbulosc.a, made by `rt staticlib ierbulosc`, for x86-64 Linux. Its functions keep
+ * The library is target/staticlib/libierbulosc.a, made by `./build ierbulosc`, for x86-64 Linux. Its functions keep
  * nothing between calls, allocate nothing and always return. What they do is proved in crates/ierbulosc and the
  * crates below it. A test (rust/tests/header.rs) holds the declarations here against the exported functions and the
  * registers' layout in Rattle; that the words here say the same as the proofs is for their reader to compare.

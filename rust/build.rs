@@ -14,7 +14,7 @@ fn main() {
     println!("cargo::rerun-if-changed={}", archive.display());
     if !archive.is_file() {
         println!(
-            "cargo::error={ARCHIVE} is not in {}: make it with `rt staticlib ierbulosc`, \
+            "cargo::error={ARCHIVE} is not in {}: make it with `./build ierbulosc`, \
              or name its folder, with the full path, in IERBULOSC_LIB",
             folder.display()
         );

@@ -145,7 +145,7 @@ fn numbers(kind: &str, name: &str) -> Vec<Named> {
 fn sum(text: &str, known: &[(String, usize)]) -> usize {
     let term = |word: &str| match known.iter().find(|(name, _)| name == word) {
         Some((_, number)) => *number,
-        None if word == "TabStops::ROOM" || word == "stopRoom" => c_constant("TAB_STOPS"),
+        None if word == "TabStops::ROOM" || word == "stop_room" => c_constant("TAB_STOPS"),
         None if word == "Channels::NUMBER" => c_constant("CHANNELS"),
         None => word.parse().unwrap_or_else(|_| panic!("{word} in {text}")),
     };
@@ -170,20 +170,16 @@ fn layout() -> Vec<(String, usize)> {
 }
 
 /// The numbers of the registers in the definitions, by the names in the code:
-/// `lineCountAt` is LINE_COUNT, and `registerCount` COUNT.
+/// `line_count_at` is LINE_COUNT, and `register_count` COUNT.
 fn defined() -> Vec<(String, usize)> {
     let lines = NUMBERS.lines().filter(|line| !line.starts_with("--"));
     let mut all = numbered(lines.filter_map(|line| line.split_once(" = ")));
     for (name, _) in &mut all {
         let own = match name.as_str() {
-            "registerCount" => "count",
-            name => name.strip_suffix("At").unwrap(),
+            "register_count" => "count",
+            name => name.strip_suffix("_at").unwrap(),
         };
-        let word = |c: char| match c.is_uppercase() {
-            true => format!("_{c}"),
-            false => c.to_uppercase().to_string(),
-        };
-        *name = own.chars().map(word).collect();
+        *name = own.to_uppercase();
     }
     all
 }
@@ -300,7 +296,7 @@ fn exported(name: &str, kind: &str, only_slice: bool) -> Vec<Named> {
 }
 
 fn rattle_functions() -> Vec<Function> {
-    let declared = EXPORTS.split("#[no_mangle]\n").skip(1);
+    let declared = EXPORTS.split("#[unsafe(no_mangle)]\n").skip(1);
     let declared = declared.map(|part| {
         let rest = part.strip_prefix("pub extern \"C\" fn ").unwrap();
         let (name, rest) = rest.split_once('(').unwrap();
