@@ -201,7 +201,7 @@ fn waiting_within(m: &[u32; COUNT], w: Waiting) -> bool
 }
 
 // Whether registers are those of a state within its bounds, and what they say is waited for.
-#[derive(Drop)]
+#[derive(Clone, Copy)]
 pub struct Examined {
     pub accepted: bool,
     pub waiting: Waiting,

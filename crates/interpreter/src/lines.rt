@@ -71,7 +71,7 @@ pub(crate) fn carriage_return(m: &mut [u32; COUNT], out: &mut [u8], at: usize) -
 }
 
 // A distance from the top, and the pages turned on the way.
-#[derive(Drop)]
+#[derive(Clone, Copy)]
 struct Depth {
     down: Units,
     pages: u8,

@@ -1,17 +1,10 @@
 -- What registers that hold a printer are read as.
 use Prim.Native.Nat.{ℕ}
 use mathlib.Core.Path.{◌≡◌, ap, ◌∙◌}
-use mathlib.Core.Bool.{Bool}
 use mathlib.Core.List.{List}
 use lib.ListN.{get_or}
 use Rattle.printer.specs.Settings.{advance_of, column_of}
 use Rattle.printer.specs.Records.{style_of}
-use Rattle.printer.specs.declared.settings.Margins.{Margins}
-use Rattle.printer.specs.declared.settings.Paper.{Paper}
-use Rattle.printer.specs.declared.settings.Settings.{Settings}
-use Rattle.printer.specs.declared.settings.Setup.{Setup}
-use Rattle.printer.specs.declared.settings.Width.{Width}
-use Rattle.printer.specs.declared.state.Place.{Place}
 use Rattle.printer.specs.declared.state.Printer.{Printer}
 use Rattle.registers.specs.declared.pending.Pending.{Pending}
 use Rattle.registers.specs.Register.{auto_feed_at, draft_at, upper_prints_at, style_at, advance_at, column_width_at, advance_dots_at, chosen_at}

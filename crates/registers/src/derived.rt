@@ -14,7 +14,7 @@ use printer::settings::Width;
 use printer::units::Resolution;
 
 // A setting of one register that shows in the style bits.
-#[derive(Drop)]
+#[derive(Clone, Copy)]
 pub enum Shown {
     Bold,
     DoubleStrike,

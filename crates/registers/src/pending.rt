@@ -16,7 +16,7 @@ use printer::commands::{Begun, Listing, Second, Selected, Tabs, Target, Waiting}
 
 // A kind, the escape's second byte, the argument or list byte before; an image's mode or a list's channel, the byte of a column that comes, and the
 // columns left.
-#[derive(Drop)]
+#[derive(Clone, Copy)]
 pub struct Pending {
     pub kind: u32,
     pub command: u8,

@@ -1,0 +1,13 @@
+-- The loop over the registers: the first i numbers are those of the part from a place on.
+use Prim.Native.Nat.{◌-◌}
+use lib.ListN.{take, drop}
+use Rattle.registers.proofs.Copying.{Copied}
+use Rattle.registers.proofs.unpack.copied.Given as goal
+
+abbrev pub invariant-loop-i : goal.invariant-loop-i
+invariant-loop-i l =
+    Copied (take 32 (drop l.from l.m)) l.numbers 32 l.i
+
+abbrev pub decreases-loop-i : goal.decreases-loop-i
+decreases-loop-i l =
+    32 - l.i
