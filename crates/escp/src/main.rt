@@ -2,76 +2,89 @@
 #![tactic(auto)]
 
 use command_line::{Choice, Options};
-use libc::{STDERR_FILENO, STDOUT_FILENO};
 use printer::answers::Answer;
 use printer::settings::StartSettings;
+use std::env::{Env, FillError};
+
+// The most bytes of a word: a longer one is none that is known.
+const WORD: usize = 4096;
 
 // What the words of the command line ask for.
-fn asked() -> Choice {
+fn asked(rt: &HostRuntime) -> Choice {
     let mut options = Options::new();
-    let mut word = io::buffer();
-    let count = os::arg_count();
-    let mut i = 1;
-    while i < count {
-        let n = os::arg(i, &mut word);
-        options = options.word(&word[..n]);
-        i += 1;
+    let mut word = [0u8; WORD];
+    for i in 1..usize::MAX {
+        match rt.arg(i, &mut word) {
+            Ok(n) => options = options.word(&word[..n]),
+            Err(FillError::TooLong) => options = options.word(b""),
+            Err(FillError::NotPresent) => break,
+        }
     }
     options.choice()
 }
 
-fn help() {
-    io::write_all(
-        STDOUT_FILENO,
-        b"escp [--dots 203|300] [--width N] [--auto-feed] < INPUT\n",
-    );
-    io::write_all(
-        STDOUT_FILENO,
-        b"Reads ESC/P and writes each record as a line of hex digits.\n",
-    );
-    io::write_all(
-        STDOUT_FILENO,
-        b"  --dots N     dots an inch: 203 or 300 (300 if not given)\n",
-    );
-    io::write_all(
-        STDOUT_FILENO,
-        b"  --width N    width of the paper in 1/3600 inch: 7200 to 28800 (28800 if not given)\n",
-    );
-    io::write_all(
-        STDOUT_FILENO,
-        b"  --auto-feed  a line feed after each carriage return\n",
-    );
-    io::write_all(STDOUT_FILENO, b"  --help       this text\n");
+// Writes a text to standard output, where it can be written.
+fn say(rt: &HostRuntime, text: &str) {
+    let _ = rt.print(text);
 }
 
-fn bad_usage() {
-    io::write_all(
-        STDERR_FILENO,
-        b"escp: takes --dots 203, --dots 300, --width 7200 to 28800, --auto-feed and --help\n",
+// The same to standard error.
+fn complain(rt: &HostRuntime, text: &str) {
+    let _ = rt.eprint(text);
+}
+
+fn help(rt: &HostRuntime) {
+    say(
+        rt,
+        "escp [--dots 203|300] [--width N] [--auto-feed] < INPUT\n",
+    );
+    say(
+        rt,
+        "Reads ESC/P and writes each record as a line of hex digits.\n",
+    );
+    say(
+        rt,
+        "  --dots N     dots an inch: 203 or 300 (300 if not given)\n",
+    );
+    say(
+        rt,
+        "  --width N    width of the paper in 1/3600 inch: 7200 to 28800 (28800 if not given)\n",
+    );
+    say(
+        rt,
+        "  --auto-feed  a line feed after each carriage return\n",
+    );
+    say(rt, "  --help       this text\n");
+}
+
+fn bad_usage(rt: &HostRuntime) {
+    complain(
+        rt,
+        "escp: takes --dots 203, --dots 300, --width 7200 to 28800, --auto-feed and --help\n",
     );
 }
 
-fn start(settings: StartSettings) {
+fn start(rt: &HostRuntime, settings: StartSettings) {
     let started = reader::start(settings);
     let answer = started.answer;
     let printer = started.printer;
     match answer {
         Answer::InputUsed => {
-            listing::run(printer);
+            listing::run(rt, printer);
         }
         _ => {
-            io::write_all(
-                STDERR_FILENO,
-                b"escp: --dots takes 203 or 300, --width takes 7200 to 28800\n",
+            complain(
+                rt,
+                "escp: --dots takes 203 or 300, --width takes 7200 to 28800\n",
             );
         }
     }
 }
 
-fn main() {
-    match asked() {
-        Choice::Run(settings) => start(settings),
-        Choice::Help => help(),
-        Choice::Bad => bad_usage(),
+fn main(rt: HostRuntime) {
+    match asked(&rt) {
+        Choice::Run(settings) => start(&rt, settings),
+        Choice::Help => help(&rt),
+        Choice::Bad => bad_usage(&rt),
     }
 }

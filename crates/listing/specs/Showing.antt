@@ -1,4 +1,4 @@
--- What showing input promises: the state left is that of the rules' steps over the bytes read. Whether writing failed is the kit's own answer,
+-- What showing input promises: the state left is that of the rules' steps over the bytes read. Whether writing failed is std's own answer,
 -- and free.
 use Rattle.std.specs.Prelude.{ℕ, ◌≤◌, ◌<◌, ◌≡◌, true, false, List, length, take}
 use Rattle.printer.specs.Tools.{Bytes}
@@ -24,7 +24,7 @@ pub record AllShown (p : Printer) (input : List ℕ) (back : Progress) : Type 0 
   pub bytes : Bytes input
   pub all : accepted p ≡ true → back.failed ≡ false → back.read ≡ length input
 
--- so many bytes from outside lead from a state to another. Which they are, and how many come, is free: no contract of the kit says what a
+-- so many bytes from outside lead from a state to another. Which they are, and how many come, is free: no contract of std says what a
 -- descriptor has.
 pub record FromInput (p after : Printer) (read : ℕ) : Type 0 where
   pub input : List ℕ

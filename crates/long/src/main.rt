@@ -4,8 +4,8 @@
 
 use printer::starting::plain_start;
 
-fn main() {
+fn main(rt: HostRuntime) {
     let started = reader::start(plain_start());
     let printer = started.printer;
-    listing::run(printer);
+    listing::run(&rt, printer);
 }

@@ -11,14 +11,14 @@ use printer::records::Record;
 use slot::Seen;
 
 // A record that is held, or none, with zeros.
-#[derive(Drop)]
+#[derive(Clone, Copy)]
 pub struct Held {
     pub some: bool,
     pub bytes: [u8; Record::SIZE],
 }
 
 // The last letter asked for on the lines before this one of the present page, and on this line.
-#[derive(Drop)]
+#[derive(Clone, Copy)]
 pub struct Standing {
     pub kept: Held,
     pub line: Held,

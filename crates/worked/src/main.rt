@@ -7,11 +7,11 @@
 
 ghost use Rattle.std.specs.Prelude.{◌≤◌, length};
 
-use libc::{STDIN_FILENO, STDOUT_FILENO};
 use printer::answers::{Answer, Reading};
 use printer::records::Record;
 use printer::settings::StartSettings;
 use printer::state::Printer;
+use std::io::Read;
 
 // The most bytes of input that a case has.
 const MOST: usize = 512;
@@ -23,7 +23,7 @@ const ROOM: usize = 2 * MOST * Record::SIZE;
 const HEAD: usize = 11;
 
 // The allowance and the output length of each call.
-#[derive(Drop)]
+#[derive(Clone, Copy)]
 struct Limits {
     allowance: usize,
     room: usize,
@@ -137,22 +137,22 @@ fn lent_agrees(printer: Printer, input: &[u8], expected: &[u8]) -> bool {
     first.same & second.same & (second.written == rest)
 }
 
-fn say(line: &[u8]) {
-    io::write_all(STDOUT_FILENO, line);
+fn say(rt: &HostRuntime, line: &[u8]) {
+    let _ = rt.write_all(line);
 }
 
-fn say_answer(answer: Answer) {
+fn say_answer(rt: &HostRuntime, answer: Answer) {
     match answer {
         Answer::InputUsed => {}
-        Answer::AllowanceUsed => say(b"answer 1\n"),
-        Answer::OutputFull => say(b"answer 2\n"),
-        Answer::SettingsRefused => say(b"answer 3\n"),
-        Answer::StateRefused => say(b"answer 4\n"),
+        Answer::AllowanceUsed => say(rt, b"answer 1\n"),
+        Answer::OutputFull => say(rt, b"answer 2\n"),
+        Answer::SettingsRefused => say(rt, b"answer 3\n"),
+        Answer::StateRefused => say(rt, b"answer 4\n"),
     }
 }
 
 // A reading call, whose records and answer are written, after a line if bytes read one by one, or on a state that is lent, give others.
-fn show_call(printer: Printer, input: &[u8], limits: Limits) -> Progress
+fn show_call(rt: &HostRuntime, printer: Printer, input: &[u8], limits: Limits) -> Progress
     ensures { result.read ≤ length input.now }
 {
     let mut records = [0u8; ROOM];
@@ -163,15 +163,15 @@ fn show_call(printer: Printer, input: &[u8], limits: Limits) -> Progress
     let written = report.written;
     let count = report.read;
     if !cut_agrees(printer, &input[0..count], &records[0..written]) {
-        say(b"cut differs\n");
+        say(rt, b"cut differs\n");
     }
     if !lent_agrees(printer, &input[0..count], &records[0..written]) {
-        say(b"lent differs\n");
+        say(rt, b"lent differs\n");
     }
     let size = hex_lines::lines(&records[0..written], &mut text);
-    say(&text[0..size]);
+    say(rt, &text[0..size]);
     let answer = report.answer;
-    say_answer(answer);
+    say_answer(rt, answer);
     Progress {
         printer: next,
         read: count,
@@ -179,11 +179,11 @@ fn show_call(printer: Printer, input: &[u8], limits: Limits) -> Progress
 }
 
 // Calls until all is read, or one reads nothing.
-fn show(printer: Printer, input: &[u8], limits: Limits) {
+fn show(rt: &HostRuntime, printer: Printer, input: &[u8], limits: Limits) {
     let mut p = printer;
     let mut at = 0;
     loop {
-        let progress = show_call(p, &input[at..], limits);
+        let progress = show_call(rt, p, &input[at..], limits);
         let next = progress.printer;
         p = next;
         at += progress.read;
@@ -197,13 +197,13 @@ fn show(printer: Printer, input: &[u8], limits: Limits) {
 }
 
 // A case: the start, and the input on the state that it gives, even where it is refused.
-fn run(settings: StartSettings, input: &[u8], limits: Limits) {
+fn run(rt: &HostRuntime, settings: StartSettings, input: &[u8], limits: Limits) {
     let started = reader::start(settings);
     let answer = started.answer;
     let printer = started.printer;
-    say_answer(answer);
-    show(printer, input, limits);
-    say(b"\n");
+    say_answer(rt, answer);
+    show(rt, printer, input, limits);
+    say(rt, b"\n");
 }
 
 // Two bytes as a number.
@@ -213,17 +213,33 @@ fn word(low: u8, high: u8) -> u32
     low as u32 + 256 * high as u32
 }
 
+// Reads what standard input has next, and returns how many bytes there are; none where that fails.
+fn get(rt: &HostRuntime, piece: &mut [u8]) -> usize
+    ensures { result ≤ length piece.new }
+{
+    let mut stdin = rt.stdin();
+    stdin.read(piece).unwrap_or(0)
+}
+
 // Reads so many bytes, or as many as there are, into the beginning of `out`, and returns their count.
-fn fill(out: &mut [u8], size: usize) -> usize
+fn fill(rt: &HostRuntime, out: &mut [u8], size: usize) -> usize
     requires { size ≤ length out.old }
 {
-    io::read_full(STDIN_FILENO, &mut out[0..size])
+    let mut done = 0;
+    while done < size {
+        let n = get(rt, &mut out[done..size]);
+        if n == 0 {
+            return done;
+        }
+        done += n;
+    }
+    done
 }
 
 // Runs the next case; false if there is none.
-fn next_case() -> bool {
+fn next_case(rt: &HostRuntime) -> bool {
     let mut head = [0u8; HEAD];
-    if fill(&mut head, HEAD) < HEAD {
+    if fill(rt, &mut head, HEAD) < HEAD {
         return false;
     }
     let settings = StartSettings {
@@ -238,22 +254,22 @@ fn next_case() -> bool {
     let size = word(head[6], head[7]) as usize;
     let mut input = [0u8; MOST];
     if MOST < size {
-        say(b"input too long\n");
+        say(rt, b"input too long\n");
         return false;
     }
-    if fill(&mut input, size) < size {
-        say(b"input cut short\n");
+    if fill(rt, &mut input, size) < size {
+        say(rt, b"input cut short\n");
         return false;
     }
-    run(settings, &input[0..size], limits);
+    run(rt, settings, &input[0..size], limits);
     true
 }
 
 // The cases are counted, since nothing says that the input ends.
-fn main() {
+fn main(rt: HostRuntime) {
     let mut turns = u64::MAX;
     while turns > 0 {
-        if !next_case() {
+        if !next_case(&rt) {
             return;
         }
         turns -= 1;
