@@ -8,7 +8,7 @@ use lib.ListN.{length, set, length-append}
 use Rattle.writer.specs.Card.{letter_at, down_before, room_for, letter_bytes, letters_bytes, card}
 use Rattle.writer.specs.Laid.{Laid}
 use Rattle.writer.specs.Refusals.{AllGood}
-use Rattle.writer.proofs.Laying.{store2, same_length, more, itself, over}
+use Rattle.writer.proofs.Laying.{store2, same_length, more, itself}
 use Rattle.writer.proofs.Places.{letter-length}
 use Rattle.writer.proofs.GoodLetters.{Good, last-good, before-good}
 
@@ -52,12 +52,6 @@ module _ (l : List ℕ) {xs ys : List ℕ} {n i at before : ℕ} (v : Begun l xs
         reset = omega (arith, v.reset, w.place);
         down = rw (add-one i);
       }
-
-pub ends : (l : List ℕ) {xs ys : List ℕ} {n i at before : ℕ} → 2 ≤ length xs → Begun l (set (set xs 0 0x1B) 1 0x40) n i at before ys → n ≤ i
-    → Laid xs 0 (card l n) at ys
-ends l {xs} {ys} {n} {i} h v k =
-    let e : i ≡ n = omega (arith, v.within) in
-    rw e at (over (reset_laid l xs h) h v.reset v.laid)
 
 -- How many bytes it has
 

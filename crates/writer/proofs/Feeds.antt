@@ -1,11 +1,11 @@
 -- Feeds of 255 steps one after the other, and the rest.
 use Prim.Native.Nat.{ℕ, zero, suc, ◌+◌, ◌*◌, ◌/◌, ◌%◌, ◌≤◌, ◌<◌}
 use mathlib.Core.Path.{◌≡◌, refl, ap, ◌∙◌}
-use mathlib.Core.List.{List, ◌++◌, append-nil}
+use mathlib.Core.List.{List, ◌++◌}
 use native.Mathlib.Numerals.{add-one}
 use native.Mathlib.Omega.{arith}
 use lib.ListN.{length, length-append}
-use borrow.Author.Tests.{eq-eqb, ne_eqb, eqb-false}
+use borrow.Author.Tests.{ne_eqb, eqb-false}
 use lib.Dec.{eqb}
 use Rattle.printer.proofs.Choices.{pick_elim}
 use Rattle.writer.specs.Card.{feed, whole_feeds, feeds}
@@ -40,13 +40,10 @@ module _ {xs ys : List ℕ} {at n i next : ℕ} (v : Fed xs at n i next ys) wher
         place = omega (arith, v.place, w.place);
       }
 
--- after it: no rest, or one more
+-- after it, one more by the rest
 module _ (steps : ℕ) {xs ys : List ℕ} {at i next : ℕ} (v : Fed xs at (steps / 255) i next ys) (h : steps / 255 ≤ i) where
   all : whole_feeds i ≡ whole_feeds (steps / 255)
   all = let e : i ≡ steps / 255 = omega (arith, v.within) in ap whole_feeds e
-
-  pub no-rest : steps % 255 ≡ 0 → Laid xs at (feeds steps) next ys
-  no-rest e = rw (eq-eqb (steps % 255) 0 e, append-nil) (rw all at v.laid)
 
   pub and-rest : {end : ℕ} {zs : List ℕ} → (steps % 255 ≡ 0 → ⊥) → steps ≤ 1979 → at + 24 ≤ length xs
       → Laid ys next (feed (steps % 255)) end zs → Laid xs at (feeds steps) end zs

@@ -1,29 +1,30 @@
 -- Moves across to a place, and the whole of a letter.
-use Prim.Native.Nat.{ℕ, ◌+◌, ◌-◌, ◌/◌, ◌%◌, ◌≤◌}
+use Prim.Native.Nat.{ℕ, ◌+◌, ◌-◌, ◌/◌, ◌≤◌}
 use mathlib.Core.Path.{◌≡◌}
 use mathlib.Core.List.{List, [], ◌∷◌, ◌++◌}
 use native.Mathlib.Omega.{arith}
 use lib.Dec.{eqb}
 use lib.ListN.{length, length-append}
-use borrow.Author.Tests.{eq-eqb, ne_eqb}
-use Rattle.printer.proofs.Choices.{pick_elim}
+use borrow.Author.Tests.{ne_eqb}
+use Rattle.printer.specs.Tools.{pick}
+use mathlib.Core.Bool.{Bool, true, false}
 use Rattle.writer.specs.Card.{feeds, move_bytes, place_bytes, letter_bytes, most_bytes}
 use Rattle.writer.specs.Laid.{Laid}
 use Rattle.writer.specs.declared.Letter.{Letter}
 use Rattle.writer.proofs.Laying.{same_length, more}
 use Rattle.writer.proofs.Feeds.{feeds-length}
 
-module _ (across : ℕ) {xs ys : List ℕ} {at next : ℕ} (w : Laid xs at (move_bytes 0x24 (across / 60)) next ys) where
-  pub no-rest : across % 60 / 20 ≡ 0 → Laid xs at (place_bytes across) next ys
-  no-rest e = rw (eq-eqb (across % 60 / 20) 0 e) w
+-- a move, and one more by what is left
+pub and-rest : (m n : ℕ) {xs ys zs : List ℕ} {at next end : ℕ} → Laid xs at (move_bytes 0x24 m) next ys → next ≤ length xs → (n ≡ 0 → ⊥)
+    → Laid ys next (move_bytes 0x5C n) end zs → Laid xs at (move_bytes 0x24 m ++ pick (eqb n 0) [] (move_bytes 0x5C n)) end zs
+and-rest m n w fits e v = rw (ne_eqb n 0 e) (more w fits v)
 
-  pub and-rest : {end : ℕ} {zs : List ℕ} → next ≤ length xs → (across % 60 / 20 ≡ 0 → ⊥)
-      → Laid ys next (move_bytes 0x5C (across % 60 / 20)) end zs → Laid xs at (place_bytes across) end zs
-  and-rest fits e v = rw (ne_eqb (across % 60 / 20) 0 e) (more w fits v)
+moves-length : (t : Bool) (n m : ℕ) → length (move_bytes 0x24 n ++ pick t [] (move_bytes 0x5C m)) ≤ 8
+moves-length true n m = omega arith
+moves-length false n m = omega arith
 
 pub place-length : (across : ℕ) → length (place_bytes across) ≤ 8
-place-length across =
-    pick_elim (λ (r : List ℕ). length (move_bytes 0x24 (across / 60) ++ r) ≤ 8) (eqb (across % 60 / 20) 0) (λ _. omega arith) (λ _. omega arith)
+place-length across = moves-length _ (across / 60) _
 
 -- a letter takes at most 33 bytes
 pub letter-length : (before : ℕ) (x : Letter) → x.down ≤ 39580 → length (letter_bytes before x) ≤ most_bytes

@@ -42,7 +42,7 @@ module _ (r : Resolution) (k : Kept) where
   whole-feeds x y a m zero h = let e : y + 5100 * 0 ≡ y = omega arith in rw e (nothing (standing r x y) (reckoning k a m y))
   whole-feeds x y a m (suc n) h =
       let e : y + 5100 * suc n ≡ y + 5100 * n + 20 * 255 = omega arith in
-      rw e (then (whole_feeds n) (feed 255) (whole-feeds x y a m n (omega arith)) (feeds_down r k x (y + 5100 * n) a m 255 (omega arith)))
+      rw e (then (whole_feeds n) _ (whole-feeds x y a m n (omega arith)) (feeds_down r k x (y + 5100 * n) a m _ (omega arith)))
 
   rest-feed : (x y a m n : ℕ) → y + 20 * n < 39600 → Goes x y a m (pick (eqb n 0) [] (feed n)) x (y + 20 * n) a m
   rest-feed x y a m n h = go (eqb n 0) refl

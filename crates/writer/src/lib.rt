@@ -11,7 +11,7 @@ ghost use Rattle.writer.specs.Laid.{Laid};
 use crate::letters::{first_fault, letter_at};
 
 // What writing answers.
-#[derive(Drop)]
+#[derive(Clone, Copy)]
 pub enum CardAnswer {
     Written,
     LengthRefused,
@@ -36,14 +36,14 @@ impl CardAnswer {
 }
 
 // The answer, and how many bytes were written.
-#[derive(Drop)]
+#[derive(Clone, Copy)]
 pub struct CardReport {
     pub answer: CardAnswer,
     pub written: usize,
 }
 
 // A letter, and its place in units.
-#[derive(Drop)]
+#[derive(Clone, Copy)]
 pub struct Letter {
     pub byte: u8,
     pub across: u16,
