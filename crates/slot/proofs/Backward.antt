@@ -9,7 +9,7 @@ use Rattle.printer.proofs.Frames.{clash}
 use lib.Dec.{eqb}
 use borrow.Author.Tests.{eq-eqb, ne_eqb}
 use lib.ListN.{length, take, drop}
-use Rattle.printer.specs.Tools.{pick, within}
+use Rattle.printer.specs.Tools.{within}
 use Rattle.printer.specs.Records.{record_size}
 use Rattle.printer.specs.Decoding.{decoded}
 use Rattle.printer.specs.declared.records.Mark.{Mark}

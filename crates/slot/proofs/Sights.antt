@@ -1,32 +1,17 @@
 -- What a record is to the question, by its bytes.
-use Prim.Native.Nat.{ℕ, ◌<◌, ◌≤◌}
+use Prim.Native.Nat.{ℕ}
 use mathlib.Core.Path.{◌≡◌, refl}
 use mathlib.Core.Bool.{Bool, true, false}
 use mathlib.Core.List.{List, [], ◌∷◌}
 use lib.Dec.{eqb}
 use lib.ListN.{get_or}
-use borrow.Author.Tests.{eqb-true, eq-eqb, ne_eqb, le-leb, lt-leb}
+use borrow.Author.Tests.{eqb-true}
 use Rattle.printer.specs.Tools.{pick, both}
 use Rattle.printer.specs.Decoding.{marks_of, decoded, word_at, fields_at}
 use Rattle.printer.specs.declared.records.Mark.{Mark}
 use Rattle.printer.proofs.Choices.{both_left, both_right}
 use Rattle.slot.specs.Slot.{letter_seen, feed_seen, seen_in, seen_of}
 use Rattle.slot.specs.declared.Seen.{Seen}
-
-pub before : (a b column : ℕ) → column < a → Seen.Other ≡ letter_seen a b column
-before a b column h = rw (lt-leb a column h)
-
-pub inside : (a b column : ℕ) → a ≤ column → column ≤ b → Seen.Letter ≡ letter_seen a b column
-inside a b column h k = rw (le-leb a column h, le-leb column b k)
-
-pub past : (a b column : ℕ) → a ≤ column → b < column → Seen.Other ≡ letter_seen a b column
-past a b column h k = rw (le-leb a column h, lt-leb column b k)
-
-pub line : (pages : ℕ) → pages ≡ 0 → Seen.Line ≡ feed_seen pages
-line pages h = rw (eq-eqb pages 0 h)
-
-pub page : (pages : ℕ) → (pages ≡ 0 → ⊥) → Seen.Page ≡ feed_seen pages
-page pages h = rw (ne_eqb pages 0 h)
 
 -- two bytes are x and y
 abbrev pub are : (l : List ℕ) → (x y : ℕ) → Bool

@@ -1,5 +1,5 @@
 -- Document 02, E2: what stands under a slot, by a forward reading of the whole list.
-use Rattle.std.specs.Prelude.{ℕ, zero, suc, ◌*◌, ◌-◌, ◌/◌, ◌%◌, Bool, List, [], ◌∷◌, eqb, length, take, drop}
+use Rattle.std.specs.Prelude.{ℕ, zero, suc, ◌*◌, ◌/◌, ◌%◌, Bool, List, [], ◌∷◌, eqb, length, take, drop}
 use Rattle.printer.specs.Tools.{pick, within}
 use Rattle.printer.specs.Records.{record_size}
 use Rattle.printer.specs.Decoding.{decoded}

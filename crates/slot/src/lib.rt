@@ -10,7 +10,7 @@ ghost use Rattle.slot.specs.Slot.{letter_seen, feed_seen, seen_of, found, part_w
 use printer::records::Record;
 
 // What the question answers.
-#[derive(Drop)]
+#[derive(Clone, Copy)]
 pub enum SlotAnswer {
     Answered,
     LengthRefused,
@@ -29,7 +29,7 @@ impl SlotAnswer {
 }
 
 // The answer, and which part of the list it speaks of.
-#[derive(Drop)]
+#[derive(Clone, Copy)]
 pub struct Part {
     pub answer: SlotAnswer,
     pub start: usize,
@@ -37,7 +37,7 @@ pub struct Part {
 }
 
 // What a record is to the question: a TX from the one column to the other, an LN on the page, an LN to another page, a CL, or anything else.
-#[derive(Drop)]
+#[derive(Clone, Copy)]
 pub enum Seen {
     Letter,
     Line,
