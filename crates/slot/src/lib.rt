@@ -53,7 +53,7 @@ fn marked(a: u8, b: u8, first: u8, second: u8) -> bool
     (a == first) & (b == second)
 }
 
-// A two_byte number, low byte first.
+// A two-byte number, low byte first.
 fn word(low: u8, high: u8) -> u16
     ensures { result ≡ low + 256 * high }
 {

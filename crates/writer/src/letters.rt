@@ -5,7 +5,7 @@ ghost use Rattle.writer.specs.Card.{letter_size, word, letter_at, byte_needs, pl
 
 use crate::{CardAnswer, Letter};
 
-// A two_byte number, low byte first.
+// A two-byte number, low byte first.
 fn word(low: u8, high: u8) -> u16
     ensures { result ≡ word low high }
 {
