@@ -1,6 +1,6 @@
 -- The lines of any list of whole records, with or without the last newline, are read to their end, and what stands after them is what crate
 -- slot answers of the list.
-use Rattle.std.proofs.Common.{◌≡◌, ℕ, zero, suc, ◌+◌, ◌-◌, ◌*◌, ◌/◌, ◌%◌, ◌<◌, ◌≤◌, false, ltb, List, [], ◌∷◌, ◌++◌, length, drop, refl, ◌∙◌, append_assoc, append-nil, arith, length-append, length-drop, length-take-le, lt-ltb, eq-eqb, ne_eqb}
+use Rattle.std.proofs.Common.{◌≡◌, ℕ, zero, suc, ◌+◌, ◌*◌, ◌/◌, ◌%◌, ◌<◌, ◌≤◌, false, ltb, List, [], ◌∷◌, ◌++◌, length, drop, refl, ◌∙◌, append_assoc, append-nil, arith, length-append, length-drop, length-take-le, lt-ltb, eq-eqb, ne_eqb}
 use Rattle.printer.specs.Tools.{Bytes}
 use Rattle.printer.specs.Records.{record_size}
 use Rattle.printer.proofs.Choices.{pick_elim, bytes_take}

@@ -1,5 +1,5 @@
 -- The records held are those that the forward reading of crate slot numbers; so what stands is its answer, for every list of whole records.
-use Rattle.std.proofs.Common.{◌≡◌, ℕ, zero, suc, ◌/◌, true, List, [], length, refl, ap, ◌∙◌}
+use Rattle.std.proofs.Common.{◌≡◌, ℕ, zero, suc, ◌/◌, true, List, length, refl, ap, ◌∙◌}
 use Rattle.printer.specs.Records.{record_size}
 use Rattle.slot.specs.Slot.{Found, forward, record_at, seen_at, whole, found, found_part, part_of, bytes_in, standing_in}
 use Rattle.slot.specs.Slot as S

@@ -2,7 +2,6 @@
 use Rattle.std.proofs.Common.{◌≡◌, ℕ, zero, suc, ◌+◌, ◌<◌, ◌≤◌, true, false, eqb, List, [], ◌∷◌, ◌++◌, length, get_or, take, drop, set, sym, refl, ◌∙◌, add-one, arith, length-append, drop_of_length-le, length-take-le, take_all, drop-cons, take-suc-set, le-ltb, lt-ltb, eq-eqb, ne_eqb}
 use mir.Val.{Val}
 use denote.Laws.{Is}
-use lib.ListN.{length-map}
 use Rattle.printer.specs.Tools.{either}
 use Rattle.hex_lines.specs.RecordLine.{digit_count, record_of}
 use Rattle.hex_lines.specs.declared.RecordLine.{RecordLine}
@@ -15,7 +14,7 @@ use Rattle.standing.specs.contracts.text.Text as T
 
 -- the line's array has its length
 pub room : (t : Text) {vs : List Val} → Is T.the_row t vs → length t.line ≡ digit_count
-room t h = simp length-map at h.1.1.1.0.1.0.1
+room t h = h.1.1.1.0.1.0.1
 
 -- the first k bytes of some are none just if k is 0
 none-taken : (l : List ℕ) (k : ℕ) → 0 < length l → eqb (length (take k l)) 0 ≡ eqb k 0
