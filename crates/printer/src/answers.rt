@@ -29,7 +29,7 @@ impl Answer {
 }
 
 // What a start gives back.
-#[derive(Drop)]
+#[derive(Clone, Copy)]
 pub struct Started {
     pub answer: Answer,
     pub printer: Printer,
@@ -44,7 +44,7 @@ pub struct Report {
 }
 
 // What the reading call by value gives back.
-#[derive(Drop)]
+#[derive(Clone, Copy)]
 pub struct Reading {
     pub report: Report,
     pub printer: Printer,

@@ -13,7 +13,7 @@ pub struct Place {
     pub down: Units,
 }
 
-#[derive(Drop)]
+#[derive(Clone, Copy)]
 pub struct Printer {
     pub settings: Settings,
     pub place: Place,

@@ -2,7 +2,7 @@
 use crate::units::Units;
 
 // A list of stops: columns, or distances from the top in units. The first `count` are held.
-#[derive(Drop)]
+#[derive(Clone, Copy)]
 pub struct TabStops {
     pub stops: [u32; TabStops::ROOM],
     pub count: u32,
@@ -10,14 +10,14 @@ pub struct TabStops {
 
 // The vertical channels. Channel m has the sixteen places from 16 m on; its count is 0 if it was never set, else one more than the stops that it
 // holds. `chosen` is the one that VT uses.
-#[derive(Drop)]
+#[derive(Clone, Copy)]
 pub struct Channels {
     pub stops: [u32; Channels::ROOM],
     pub counts: [u32; Channels::NUMBER],
     pub chosen: u32,
 }
 
-#[derive(Drop)]
+#[derive(Clone, Copy)]
 pub struct Stops {
     pub columns: TabStops,
     pub channels: Channels,
