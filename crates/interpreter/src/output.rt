@@ -20,7 +20,7 @@ pub(crate) fn write_record(out: &mut [u8], at: usize, r: Record) -> usize
 {
     let end = at + Record::SIZE;
     let encoded = encoded(r);
-    bytes::copy(&encoded, &mut out[at..end]);
+    out[at..end].copy_from_slice(&encoded);
     end
 }
 

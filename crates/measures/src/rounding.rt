@@ -63,7 +63,7 @@ pub fn row(resolution: Resolution, at: Units) -> Dots
 }
 
 // An exact place across, or a step between two, as one number: 65,536 times what is over, and the dots. A step further is a sum and a comparison.
-#[derive(Drop)]
+#[derive(Clone, Copy)]
 pub struct Exact(pub u32);
 
 // The exact place of a place, with the half that rounds.
