@@ -1,0 +1,30 @@
+-- Each escape's flag, and its style bit.
+use mathlib.Core.Path.{refl}
+use Rattle.printer.specs.Settings.{with_bold, with_double_strike, with_italic}
+use Rattle.registers.specs.declared.derived.Shown.{Shown}
+use Rattle.registers.specs.Layout.{laid}
+use Rattle.registers.specs.Keeping.{shown_stored}
+use Rattle.interpreter.proofs.Setting.{look-stored}
+use borrow.Author.Rules.{rules}
+use Rattle.interpreter.proofs.escapes.switch.Goals as goal
+
+pub returns-in-Bold : goal.returns-in-Bold
+unfolding laid shown_stored
+returns-in-Bold c p v h =
+    let w = c.w-1.given in
+    rw w.1 (look-stored h (with_bold p.settings w.0.0) Shown.Bold c.flag.ensures c.store_shown.ensures refl)
+
+pub returns-in-DoubleStrike : goal.returns-in-DoubleStrike
+unfolding laid shown_stored
+returns-in-DoubleStrike c p v h =
+    let w = c.w-in-DoubleStrike-1.given in
+    rw w.1 (look-stored h (with_double_strike p.settings w.0.0) Shown.DoubleStrike c.flag-in-DoubleStrike.ensures c.store_shown-in-DoubleStrike.ensures refl)
+
+pub returns-in-Italic : goal.returns-in-Italic
+unfolding laid shown_stored
+returns-in-Italic c p v h =
+    let w = c.w-in-Italic-1.given in
+    rw w.1 (look-stored h (with_italic p.settings w.0.0) Shown.Italic c.flag-in-Italic.ensures c.store_shown-in-Italic.ensures refl)
+
+pub returns-in-NoScript : goal.returns-in-NoScript
+returns-in-NoScript c p v h = rw c.in-NoScript.is (c.script.ensures p v h)

@@ -1,0 +1,17 @@
+-- A letter on this line: placed, or passed over.
+use mathlib.Core.Path.{refl}
+use borrow.Author.Rules.{rules}
+use Rattle.printer.specs.declared.commands.Command.{Command}
+use Rattle.printer.proofs.CodeLaws.{both_true}
+use Rattle.registers.proofs.Reading.{advance-held}
+use Rattle.interpreter.proofs.Attempts.{prints}
+use Rattle.interpreter.proofs.Events.{did-by}
+use Rattle.interpreter.proofs.Places.{across-held, right-held}
+use Rattle.interpreter.proofs.letters.letter_here.Goals as goal
+
+pub returns : goal.returns
+returns c p v h =
+    let a = c.args in
+    did-by (c.print_or_pass.ensures p v h)
+    (rw (c.letter_record-wrote.ensures p v h, c.rightward.ensures, across-held h, advance-held h, right-held h)
+    (prints p (Command.Letter a.b) _ _ _ (both_true _) refl refl))

@@ -1,0 +1,14 @@
+-- ESC $: to the right from the left margin.
+use borrow.Author.Rules.{rules}
+use mathlib.Core.Path.{refl}
+use Rattle.printer.proofs.CodeLaws.{both_true}
+use Rattle.interpreter.proofs.Places.{left-held, right-held}
+use Rattle.interpreter.proofs.Attempts.{goes}
+use Rattle.interpreter.proofs.Events.{did-by}
+use Rattle.interpreter.proofs.moves.absolute.Goals as goal
+
+pub returns : goal.returns
+returns c p v h =
+    did-by (c.move_or_pass.ensures p v h)
+    (rw (c.rightward-to.ensures, c.word.ensures.0, left-held h, right-held h)
+    (goes p _ _ _ (both_true _) refl refl))

@@ -1,0 +1,21 @@
+-- ESC \: a signed move.
+use borrow.Author.Rules.{rules}
+use mathlib.Core.Path.{◌∙◌}
+use Rattle.registers.proofs.Reading.{margins-held, draft-held}
+use Rattle.interpreter.proofs.Places.{across-held}
+use Rattle.interpreter.proofs.Attempts.{relative-goes}
+use Rattle.interpreter.proofs.Events.{did-by}
+use Rattle.interpreter.proofs.moves.relative.Goals as goal
+
+pub returns : goal.returns
+returns c p v h =
+    did-by (c.move_or_pass.ensures p v h)
+    (rw (
+      c.relative_to-to.ensures,
+      c.word.ensures.0,
+      c.margins_in.ensures ∙ margins-held h,
+      c.relative_step-step.ensures.0,
+      draft-held h,
+      across-held h,
+    )
+    (relative-goes p _ _))

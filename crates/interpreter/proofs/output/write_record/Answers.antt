@@ -1,0 +1,10 @@
+-- A record's bytes, copied over a part of the output.
+use borrow.Author.Rules.{rules}
+use native.Mathlib.Omega.{arith}
+use Rattle.interpreter.proofs.Writes.{one}
+use Rattle.interpreter.proofs.output.write_record.Goals as goal
+
+pub returns : goal.returns
+returns c =
+    let a = c.args in
+    one a.out.now _ a.at a.r (omega arith) (rw c.encoded-encoded.ensures at c.copy_from_slice.ensures.after)

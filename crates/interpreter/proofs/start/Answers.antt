@@ -1,0 +1,17 @@
+-- The start, by the test of its settings.
+use mathlib.Core.Path.{sym, ◌∙◌}
+use borrow.Author.Rules.{rules}
+use Rattle.printer.specs.Calls.{start_of}
+use Rattle.interpreter.proofs.Calling.{start_gives}
+use Rattle.interpreter.proofs.start.Goals as goal
+
+pub returns-then-usable : goal.returns-then-usable
+unfolding start_of
+returns-then-usable c =
+    start_gives (rw (sym c.usable.ensures ∙ c.if-usable.true)) (rw c.setup_of.ensures at c.started.ensures)
+
+pub returns : goal.returns
+unfolding start_of
+returns c =
+    start_gives (rw (sym c.usable.ensures ∙ c.if-usable.false))
+    (rw (c.setup_of-2.ensures, c.plain_start.ensures) at c.started-2.ensures)

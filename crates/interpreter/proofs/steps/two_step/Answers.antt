@@ -1,0 +1,24 @@
+-- The second of two arguments: a move, or how many bytes of an image follow.
+use mathlib.Core.Path.{refl, ap}
+use borrow.Author.Rules.{rules}
+use Rattle.printer.specs.declared.commands.Begun.{Begun}
+use Rattle.printer.specs.declared.commands.Command.{Command}
+use Rattle.printer.specs.declared.commands.Opening.{Opening}
+use Rattle.printer.specs.declared.commands.Two.{Two}
+use Rattle.interpreter.proofs.Escaping.{silently}
+use Rattle.interpreter.proofs.Stepping.{argument-frame, whole}
+use Rattle.interpreter.proofs.steps.two_step.Goals as goal
+
+pub returns-in-Move : goal.returns-in-Move
+returns-in-Move c p v h =
+    rw c.whole.ensures
+    (whole h _ (argument-frame h _ refl (ap (λ (x : Two). Begun.SecondOf x c.args.a) c.in-Move.is))
+    (c.move_by.ensures p v h.held))
+
+pub returns-in-Image : goal.returns-in-Image
+returns-in-Image c p v h =
+    let d = c.c-in-Image-1.given in
+    let a = c.args in
+    rw (c.waits.ensures, c.image_wait_lem.ensures, c.density_mode.ensures)
+    (whole h _ (argument-frame h _ refl (ap (λ (x : Two). Begun.SecondOf x a.a) d.1))
+    (silently (Command.OpenImage (Opening.Named d.0.0) a.a a.b) refl h.held.same))

@@ -1,0 +1,88 @@
+-- Image bytes on the registers, or else one: see Taken.
+use Prim.Native.Nat.{◌≤◌, ◌<◌}
+use mathlib.Core.Path.{refl}
+use native.Mathlib.Omega.{arith}
+use borrow.Author.Rules.{rules}
+use lib.ListN.{length, get_or}
+use Rattle.printer.proofs.Modes.{step_within}
+use Rattle.registers.specs.Register.{across_at, right_at}
+use Rattle.interpreter.specs.Taking.{Fits}
+use Rattle.interpreter.proofs.SeriesLoop.{fewer_fit, none_done, done-few, not_moved, not_written}
+use Rattle.interpreter.proofs.Taken.{in-margins, right-most, inch-known, image-bounds, image_fonts, columns-taken}
+use Rattle.interpreter.proofs.turn.take_images.Goals as goal
+
+-- the byte of a column that comes
+among : (b : goal.After-image-bytes) → ((1 ≤ b.args.k) × (b.args.k ≤ b.image-bytes.result))
+among c = rw c.image-bytes.ensures (image-bounds c.before.before.before.before.before.before.requires.0.current refl).1
+
+moves : (b : goal.After-image-bytes) → 0 < b.image-step.result.0
+moves c = rw c.image-step.ensures (step_within c.before.before.before.before.before.before.args.mode).0
+
+-- what is placed fits
+fit : (q : goal.After-place-columns)
+    → (Fits q.place-columns.result.count q.image-bytes.result q.args.k q.args.columns (length q.args.input.now) (length q.args.out.now)
+    (get_or q.args.m.now across_at 0) q.before.image-step.result.0 (get_or q.args.m.now right_at 0))
+fit c = fewer_fit c.before.before.most-here.ensures c.place-columns.ensures.few
+
+-- the columns done are waited for
+done-waited : (q : goal.After-place-columns) → q.place-columns.result.done ≤ q.before.before.before.before.before.before.before.before.before.before.before.args.columns
+done-waited c = let f = fit c in
+    omega (arith, done-few c.place-columns.ensures.reached f.line (among c.before.before.before.before), f.some_columns)
+
+pub most_here-most-requires : goal.most_here-most-requires
+most_here-most-requires c =
+    let k = c.requires.0.current in
+    ((moves c, c.requires.1.0.1), (among c, (in-margins k, (right-most k).0)))
+
+pub place_columns-placed-requires : goal.place_columns-placed-requires
+place_columns-placed-requires c =
+    let k = c.requires.0.current in
+    let f = c.most_here-most.ensures in
+    record {
+      moves = moves c;
+      first = among c;
+      fonts = rw (c.image-record.ensures _ _ k.held, c.column-part.ensures, c.image-bytes.ensures) (image_fonts c.args.mode);
+      line = f.line;
+      paper = right-most k;
+      inch = inch-known k;
+      read = (f.some-input, omega (arith, f.some-input, c.requires.1.1));
+      written = omega (arith, f.some-room);
+    }
+
+pub take_image-requires : goal.take_image-requires
+take_image-requires c =
+    let b = image-bounds c.requires.0.current refl in
+    let kept = not_written c.if-n-eq0.true c.place_columns-placed.ensures.records in
+    record {
+    columns_nonzero = (b.0, b.1.1);
+    input_nonzero = (c.requires.1.0.0, rw kept c.requires.1.0.1);
+    input_len_bound = c.requires.1.1;
+  }
+
+pub returns-then-n-eq0 : goal.returns-then-n-eq0
+returns-then-n-eq0 c =
+    let e = c.place_columns-placed.ensures in
+    let same = not_moved c.before.args.m.now _ (none_done e.reached c.if-n-eq0.true (among c).1) e.moved in
+    let kept = not_written c.if-n-eq0.true e.records in
+    let q = c.take_image.ensures in
+    (rw (same, kept) at q.0, q.1)
+
+pub overflow_mul-written : goal.overflow_mul-written
+overflow_mul-written c = record { fits = omega (arith, (fit c).some-room, c.before.well_formed.1.1.1.1.1.0) }
+
+pub overflow_cast-rest : goal.overflow_cast-rest
+overflow_cast-rest c = record { fits = omega (arith, done-waited c, c.before.well_formed.1.1.0) }
+
+pub returns : goal.returns
+returns c =
+    let s = c.image-step.ensures in
+    let e = c.image-bytes.ensures in
+    let g = c.place_columns-placed.ensures in (
+      λ p v h.
+          rw (g.moved, c.columns_wait.ensures, s)
+          (columns-taken h _ refl (rw (s, e) at (fit c)) (rw e at g.reached) (rw c.column-part.ensures at (c.image-record.ensures p v h.held)) (rw (s, e) at g.records)),
+      (omega (arith, c.if-n-eq0.false), g.left),
+    )
+
+pub overflow_sub-rest : goal.overflow_sub-rest
+overflow_sub-rest c = done-waited c
