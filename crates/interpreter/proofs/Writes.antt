@@ -17,18 +17,12 @@ unfolding encoded_all
 none xs at = record { place = omega arith; bytes = sym (take-append-drop at xs) }
 
 -- a part that is lent, and written whole by a copy of a record's bytes
-pub one : (xs zs : List ℕ) (at : ℕ) (r : Record) → at + record_size ≤ length xs
-    → zs ≡ take (length (encoded r)) (encoded r) ++ drop (length (encoded r)) (mid_of at (at + record_size - at) xs)
+pub one : (xs zs : List ℕ) (at : ℕ) (r : Record) → at + record_size ≤ length xs → zs ≡ encoded r
     → Written xs at (r ∷ []) (at + record_size) (put_mid at (at + record_size - at) xs zs)
 unfolding encoded_all
 one xs zs at r h e =
     let n = length-encoded r in
-    let rest : drop (length (encoded r)) (mid_of at (at + record_size - at) xs) ≡ [] =
-    drop_of_length-le (mid_of at (at + record_size - at) xs) {i = length (encoded r)} (simp (length-take, length-drop) (omega arith)) in
-    record {
-      place = omega arith;
-      bytes = rw (e, rest, take-length, append-nil) (simp (add-sub_cancel_left, drop-drop));
-    }
+    record { place = omega arith; bytes = rw (e, append-nil) (simp (add-sub_cancel_left, drop-drop)) }
 
 -- records written from the beginning of the last part
 pub lent : {xs ys : List ℕ} {at end : ℕ} {l : List Record} → at ≤ length xs → Written (mid_of at (length xs - at) xs) 0 l end ys

@@ -12,5 +12,5 @@ pub returns : goal.returns
 returns c p v h =
     let a = c.args in
     did-by (c.print_or_pass.ensures p v h)
-    (rw (c.image_record-wrote.ensures p v h, c.column-end.ensures, c.column_part.ensures, across-held h, right-held h)
+    (rw (c.image_record-wrote.ensures p v h, c.column_end-to.ensures, c.column_part.ensures, across-held h, right-held h)
     (prints p (Command.ImageByte a.mode a.k a.b) _ _ _ (both_true _) refl refl))

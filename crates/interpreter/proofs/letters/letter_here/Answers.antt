@@ -13,5 +13,5 @@ pub returns : goal.returns
 returns c p v h =
     let a = c.args in
     did-by (c.print_or_pass.ensures p v h)
-    (rw (c.letter_record-wrote.ensures p v h, c.rightward.ensures, across-held h, advance-held h, right-held h)
+    (rw (c.letter_record-wrote.ensures p v h, c.rightward-to.ensures, across-held h, advance-held h, right-held h)
     (prints p (Command.Letter a.b) _ _ _ (both_true _) refl refl))

@@ -11,11 +11,11 @@ returns-in_default c p v h =
     did-by (c.line_to.ensures p v h)
     (turns p
     (rw (c.edge.ensures p v h, down-held h, line-held h)
-    at (sym c.downward.ensures ∙ c.enum_told-1.given.1)))
+    at (sym c.downward.ensures ∙ c.in_default.is)))
 
 pub returns : goal.returns
 returns c p v h =
     did-by (c.line_to-2.ensures p v h)
     (feeds p
     (rw (c.edge.ensures p v h, down-held h, line-held h)
-    at (sym c.downward.ensures ∙ c.next-1.given.1)))
+    at (sym c.downward.ensures ∙ c.in-At.is)))

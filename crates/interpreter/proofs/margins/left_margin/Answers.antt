@@ -17,7 +17,7 @@ pub returns-in_default : goal.returns-in_default
 returns-in_default c p v h =
     did
     (keeps p _ _ _ (both_true _)
-    (rw (column-held h, right-held h) at (sym c.left_column.ensures ∙ c.enum_told-1.given.1)) refl)
+    (rw (column-held h, right-held h) at (sym c.left_column.ensures ∙ c.in_default.is)) refl)
     h.same c.write_passed.ensures
 
 pub returns : goal.returns
@@ -25,5 +25,5 @@ returns c p v h =
     let w = rw (right-held h) at (c.margins_set.ensures p v h) in
     did
     (sets p _ _ _ (both_true _) (λ (n : ℕ). margins_set p n (right_of p.settings)) (clear_record ∷ []) _ refl refl
-    (rw (column-held h, right-held h) at (sym c.left_column.ensures ∙ c.left-1.given.1)) refl)
+    (rw (column-held h, right-held h) at (sym c.left_column.ensures ∙ c.in-At.is)) refl)
     w.state w.wrote

@@ -17,7 +17,7 @@ pub returns-in_default : goal.returns-in_default
 returns-in_default c p v h =
     did
     (keeps p _ _ _ (rw (both_true _) refl)
-    (rw (column-held h, left-held h, paper-held h) at (sym c.right_column.ensures ∙ c.enum_told-1.given.1)) refl)
+    (rw (column-held h, left-held h, paper-held h) at (sym c.right_column.ensures ∙ c.in_default.is)) refl)
     h.same c.write_passed.ensures
 
 pub returns : goal.returns
@@ -25,5 +25,5 @@ returns c p v h =
     let w = rw (left-held h) at (c.margins_set.ensures p v h) in
     did
     (sets p _ _ _ (rw (both_true _) refl) (λ (n : ℕ). margins_set p (left_of p.settings) n) (clear_record ∷ []) _ refl refl
-    (rw (column-held h, left-held h, paper-held h) at (sym c.right_column.ensures ∙ c.right-1.given.1)) refl)
+    (rw (column-held h, left-held h, paper-held h) at (sym c.right_column.ensures ∙ c.in-At.is)) refl)
     w.state w.wrote

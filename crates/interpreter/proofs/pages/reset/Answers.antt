@@ -10,6 +10,6 @@ use Rattle.interpreter.proofs.pages.reset.Goals as goal
 
 pub returns : goal.returns
 returns c p v h =
-    let held = reset_held h (c.setup-in.ensures ∙ setup-held h) c.power-on.ensures in
+    let held = reset_held h (c.setup_in-setup.ensures ∙ setup-held h) c.power_on.ensures in
     let e = done Command.Reset 0 in
     performed e held.same (c.write_feed.ensures (perform p e) v held)

@@ -109,14 +109,14 @@ loop-n-preserved c =
       omega (arith, c.loop-n-test.true, c.loop-n.invariant.1, a.pre.1.1.1.1.1),
     )
 
-pub shape_of-out-after-loop-n : goal.shape_of-out-after-loop-n
-shape_of-out-after-loop-n c = same_length c
+pub loop-n-smaller : goal.loop-n-smaller
+loop-n-smaller c = same_length c
+
+pub loop-n-preserved : goal.loop-n-preserved
+loop-n-preserved c = ended c
 
 pub returns-after-loop-n : goal.returns-after-loop-n
-returns-after-loop-n c = ended c
-
-pub shape_of-out-then-not-printed : goal.shape_of-out-then-not-printed
-shape_of-out-then-not-printed c = same_length c
+returns-after-loop-n c = same_length c
 
 pub returns-then-not-printed : goal.returns-then-not-printed
 returns-then-not-printed c = ended c

@@ -11,14 +11,14 @@ use Rattle.interpreter.proofs.SeriesLoop.{part_same, part_length, fewer_line, on
 use Rattle.interpreter.proofs.series.place_run.Goals as goal
 
 -- what is placed is of the bytes that there are at most
-few : (q : goal.After-place-all) → (q.place-all.result.count ≤ q.args.most)
-few c = omega (arith, part_length c.args.most c.args.input.now c.requires.0.read.0, c.place-all.ensures.0.0)
+few : (q : goal.After-place_all-placed) → (q.place_all-placed.result.count ≤ q.args.most)
+few c = omega (arith, part_length c.args.most c.args.input.now c.requires.0.read.0, c.place_all-placed.ensures.0.0)
 
 -- the units moved by
-moved : (q : goal.After-place-all)
-    → (q.place-all.result.done * q.args.step.0 + get_or q.args.m.now across_at 0 ≤ 28800)
-moved c = let h = c.before.before.before.before.before.before.requires.0 in
-    omega (arith, done-within c.place-all.ensures.1.0 (fewer_line h.line (few c)) h.first, h.paper.0)
+moved : (q : goal.After-place_all-placed)
+    → (q.place_all-placed.result.done * q.args.step.0 + get_or q.args.m.now across_at 0 ≤ 28800)
+moved c = let h = c.requires.0 in
+    omega (arith, done-within c.place_all-placed.ensures.1.0 (fewer_line h.line (few c)) h.first, h.paper.0)
 
 pub slice_bounds-place_all-end : goal.slice_bounds-place_all-end
 slice_bounds-place_all-end c = c.requires.0.read.0

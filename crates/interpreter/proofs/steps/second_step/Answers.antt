@@ -15,7 +15,7 @@ pub shift-requires : goal.shift-requires
 shift-requires c =
     record {
     record_size_in_bounds = omega arith;
-    fact = only_shifts c.args.b _ (sym c.requires.1 ∙ c.s-1.given.1);
+    fact = only_shifts c.args.b _ (sym c.requires.1 ∙ c.in-Control.is);
   }
 
 pub returns-in-Control : goal.returns-in-Control

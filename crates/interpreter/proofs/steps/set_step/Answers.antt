@@ -17,7 +17,7 @@ returns-then-b-before c p v h =
     let g = rw (← h.waits) at h.accepted.waiting in
     rw c.whole.ensures
     (whole h _ {c = ends} (list-frame h _ refl ∙ rw (le-leb a.b a.before (omega arith)))
-    (allowed ends 3 refl (silently ends refl (c.end_List.ensures p v h.held g.1))))
+    (allowed ends 3 refl (silently ends refl (c.end_list.ensures p v h.held g.1))))
 
 pub returns : goal.returns
 returns c p v h =

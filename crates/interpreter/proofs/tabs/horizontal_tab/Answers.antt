@@ -10,9 +10,9 @@ use Rattle.interpreter.proofs.tabs.horizontal_tab.Goals as goal
 pub returns-in_default : goal.returns-in_default
 returns-in_default c p v h =
     let found = rw c.margins_in-margins.ensures at c.next_column-search.ensures in
-    did (tab-passed p _ (sym (column-sought h) ∙ sym found ∙ c.enum_told-1.given.1) refl) h.same c.write_passed.ensures
+    did (tab-passed p _ (sym (column-sought h) ∙ sym found ∙ c.in_default.is) refl) h.same c.write_passed.ensures
 
 pub returns : goal.returns
 returns c p v h =
     let found = rw c.margins_in-margins.ensures at c.next_column-search.ensures in
-    did (tab-done p _ _ _ (sym (column-sought h) ∙ sym found ∙ c.search-1.given.1) refl) (c.move_to.ensures p v h) (none _ _)
+    did (tab-done p _ _ _ (sym (column-sought h) ∙ sym found ∙ c.in-Found.is) refl) (c.move_to.ensures p v h) (none _ _)

@@ -22,7 +22,7 @@ returns-in-At c =
 pub loop-i-preserved : goal.loop-i-preserved
 loop-i-preserved c =
     goes_on c.loop-i.invariant c.loop-i-test.true
-    (rw c.column_position-to.ensures at (unreached _ _ (sym c.ahead.ensures ∙ c.enum_told-1.given.1)))
+    (rw c.column_position-to.ensures at (unreached _ _ (sym c.ahead.ensures ∙ c.in_default.is)))
 
 pub returns : goal.returns
 returns c = ends c.loop-i.invariant c.loop-i-test.false

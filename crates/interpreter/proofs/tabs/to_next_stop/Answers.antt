@@ -9,15 +9,15 @@ use Rattle.interpreter.proofs.tabs.to_next_stop.Goals as goal
 
 pub returns-in_default : goal.returns-in_default
 returns-in_default c b p v h k n =
-    stop-missing p b (sym (line-sought h _ _ k n) ∙ sym c.next_line-search.ensures ∙ c.enum_told-1.given.1) (c.to_next_page.ensures b p v h)
+    stop-missing p b (sym (line-sought h _ _ k n) ∙ sym c.next_line-search.ensures ∙ c.in_default.is) (c.to_next_page.ensures b p v h)
 
 pub returns-then-above : goal.returns-then-above
 returns-then-above c b p v h k n =
     did-by (c.line_to.ensures p v h)
-    (stop-done p b _ _ (sym (line-sought h _ _ k n) ∙ sym c.next-line.ensures ∙ c.search.given.1)
+    (stop-done p b _ _ (sym (line-sought h _ _ k n) ∙ sym c.next_line-search.ensures ∙ c.in-Found.is)
     (rw (c.edge.ensures p v h) at c.if-above.true) refl)
 
 pub returns : goal.returns
 returns c b p v h k n =
-    stop-below p b _ _ (sym (line-sought h _ _ k n) ∙ sym c.next-line.ensures ∙ c.search.given.1)
+    stop-below p b _ _ (sym (line-sought h _ _ k n) ∙ sym c.next_line-search.ensures ∙ c.in-Found.is)
     (rw (c.edge.ensures p v h) at c.if-above.false) (c.to_next_page-2.ensures b p v h)

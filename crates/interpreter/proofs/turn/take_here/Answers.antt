@@ -29,5 +29,5 @@ returns c =
       (omega arith, omega (arith, c.requires.1.0.0, c.requires.1.1)),
     )
 
-pub returns-then-letter : goal.returns-then-letter
-returns-then-letter c = c.take_letters.ensures
+pub take_letters-requires : goal.take_letters-requires
+take_letters-requires c = c.take_letters.ensures

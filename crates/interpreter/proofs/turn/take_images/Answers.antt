@@ -12,22 +12,22 @@ use Rattle.interpreter.proofs.Taken.{in-margins, right-most, inch-known, image-b
 use Rattle.interpreter.proofs.turn.take_images.Goals as goal
 
 -- the byte of a column that comes
-among : (b : goal.After-image-bytes) → ((1 ≤ b.args.k) × (b.args.k ≤ b.image-bytes.result))
-among c = rw c.image-bytes.ensures (image-bounds c.before.before.before.before.before.before.requires.0.current refl).1
+among : (b : goal.After-image_bytes-bytes) → ((1 ≤ b.args.k) × (b.args.k ≤ b.image_bytes-bytes.result))
+among c = rw c.image_bytes-bytes.ensures (image-bounds c.requires.0.current refl).1
 
-moves : (b : goal.After-image-bytes) → 0 < b.image-step.result.0
-moves c = rw c.image-step.ensures (step_within c.before.before.before.before.before.before.args.mode).0
+moves : (b : goal.After-image_bytes-bytes) → 0 < b.image_step-step.result.0
+moves c = rw c.image_step-step.ensures (step_within c.args.mode).0
 
 -- what is placed fits
-fit : (q : goal.After-place-columns)
-    → (Fits q.place-columns.result.count q.image-bytes.result q.args.k q.args.columns (length q.args.input.now) (length q.args.out.now)
-    (get_or q.args.m.now across_at 0) q.before.image-step.result.0 (get_or q.args.m.now right_at 0))
-fit c = fewer_fit c.before.before.most-here.ensures c.place-columns.ensures.few
+fit : (q : goal.After-place_columns-placed)
+    → (Fits q.place_columns-placed.result.count q.image_bytes-bytes.result q.args.k q.args.columns (length q.args.input.now) (length q.args.out.now)
+    (get_or q.args.m.now across_at 0) q.image_step-step.result.0 (get_or q.args.m.now right_at 0))
+fit c = fewer_fit c.most_here-most.ensures c.place_columns-placed.ensures.few
 
 -- the columns done are waited for
-done-waited : (q : goal.After-place-columns) → q.place-columns.result.done ≤ q.before.before.before.before.before.before.before.before.before.before.before.args.columns
+done-waited : (q : goal.After-place_columns-placed) → q.place_columns-placed.result.done ≤ q.before.args.columns
 done-waited c = let f = fit c in
-    omega (arith, done-few c.place-columns.ensures.reached f.line (among c.before.before.before.before), f.some_columns)
+    omega (arith, done-few c.place_columns-placed.ensures.reached f.line (among c), f.some_columns)
 
 pub most_here-most-requires : goal.most_here-most-requires
 most_here-most-requires c =
@@ -41,7 +41,7 @@ place_columns-placed-requires c =
     record {
       moves = moves c;
       first = among c;
-      fonts = rw (c.image-record.ensures _ _ k.held, c.column-part.ensures, c.image-bytes.ensures) (image_fonts c.args.mode);
+      fonts = rw (c.image_record-v.ensures _ _ k.held, c.column_part.ensures, c.image_bytes-bytes.ensures) (image_fonts c.args.mode);
       line = f.line;
       paper = right-most k;
       inch = inch-known k;
@@ -75,14 +75,14 @@ overflow_cast-rest c = record { fits = omega (arith, done-waited c, c.before.wel
 
 pub returns : goal.returns
 returns c =
-    let s = c.image-step.ensures in
-    let e = c.image-bytes.ensures in
+    let s = c.image_step-step.ensures in
+    let e = c.image_bytes-bytes.ensures in
     let g = c.place_columns-placed.ensures in (
       λ p v h.
           rw (g.moved, c.columns_wait.ensures, s)
-          (columns-taken h _ refl (rw (s, e) at (fit c)) (rw e at g.reached) (rw c.column-part.ensures at (c.image-record.ensures p v h.held)) (rw (s, e) at g.records)),
+          (columns-taken h _ refl (rw (s, e) at (fit c)) (rw e at g.reached) (rw c.column_part.ensures at (c.image_record-v.ensures p v h.held)) (rw (s, e) at g.records)),
       (omega (arith, c.if-n-eq0.false), g.left),
     )
 
-pub overflow_sub-rest : goal.overflow_sub-rest
-overflow_sub-rest c = done-waited c
+pub overflow_cast-rest : goal.overflow_cast-rest
+overflow_cast-rest c = done-waited c

@@ -13,10 +13,10 @@ use Rattle.interpreter.proofs.Taken.{in-margins, right-most, inch-known, advance
 use Rattle.interpreter.proofs.turn.take_letters.Goals as goal
 
 -- what is placed fits
-fit : (q : goal.After-place-run)
+fit : (q : goal.After-place_run-placed)
     → (let n = length q.args.input.now in
-    Fits q.place-run.result.count 1 1 n n (length q.args.out.now) (get_or q.args.m.now across_at 0) (get_or q.args.m.now advance_at 0) (get_or q.args.m.now right_at 0))
-fit c = fewer_fit c.before.before.before.before.before.most-here.ensures c.place-run.ensures.few
+    Fits q.place_run-placed.result.count 1 1 n n (length q.args.out.now) (get_or q.args.m.now across_at 0) (get_or q.args.m.now advance_at 0) (get_or q.args.m.now right_at 0))
+fit c = fewer_fit c.most_here-most.ensures c.place_run-placed.ensures.few
 
 pub most_here-most-requires : goal.most_here-most-requires
 most_here-most-requires c =
