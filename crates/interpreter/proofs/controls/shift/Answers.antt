@@ -14,4 +14,4 @@ pub returns-in_default : goal.returns-in_default
 returns-in_default c p v h =
     ⊎_elim (λ e. rw e (silent_did _ _ _ refl (c.wide_once.ensures p v h)))
     (λ e. absurd (miss (0 ∷ 1 ∷ 2 ∷ 3 ∷ 4 ∷ 5 ∷ 6 ∷ 8 ∷ 9 ∷ []) 7 tt (rw e at c.in_default.is)))
-    c.requires.1
+    c.requires.fact

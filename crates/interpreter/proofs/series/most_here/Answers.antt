@@ -9,16 +9,16 @@ use Rattle.interpreter.proofs.series.most_here.Goals as goal
 
 -- the columns have so few bytes
 few_bytes : (w : goal.After-least-whole) → w.least-whole.result * w.args.bytes ≤ 7344000
-few_bytes c = let m = le-mul_of_pos_right c.steps_in-fitting.result c.requires.0.0 in
-    product _ _ 28800 255 (omega (arith, c.least-whole.ensures, m, c.steps_in-fitting.ensures, c.requires.1.1)) (omega (arith, c.well_formed))
+few_bytes c = let m = le-mul_of_pos_right c.steps_in-fitting.result c.requires.step_nonzero.0 in
+    product _ _ 28800 255 (omega (arith, c.least-whole.ensures, m, c.steps_in-fitting.ensures, c.requires.across_at_bound)) (omega (arith, c.well_formed))
 
 pub returns-then-whole-eq0 : goal.returns-then-whole-eq0
 returns-then-whole-eq0 c =
     record {
-      line = record { whole = 0; enough = omega arith; in-margin = rw zero-mul (omega (arith, c.requires.1.1.0)) };
+      line = record { whole = 0; enough = omega arith; in-margin = rw zero-mul (omega (arith, c.requires.across_at_bound.0)) };
       some_columns = omega arith;
       some-input = omega arith;
-      some-room = omega (arith, c.requires.0.1);
+      some-room = omega (arith, c.requires.step_nonzero.1);
     }
 
 pub returns : goal.returns
@@ -29,18 +29,18 @@ returns c =
       line =
           record {
             whole = c.least-whole.result;
-            enough = omega (arith, c.least-2.ensures, c.requires.1.0);
-            in-margin = omega (arith, q, c.steps_in-fitting.ensures, c.requires.1.1);
+            enough = omega (arith, c.least-2.ensures, c.requires.le_k);
+            in-margin = omega (arith, q, c.steps_in-fitting.ensures, c.requires.across_at_bound);
           };
       some_columns = omega (arith, c.least-whole.ensures);
       some-input = omega (arith, c.least-2.ensures, c.least.ensures);
-      some-room = omega (arith, c.least-2.ensures, c.least.ensures, c.requires.0.1);
+      some-room = omega (arith, c.least-2.ensures, c.least.ensures, c.requires.step_nonzero.1);
     }
 
 -- there are as many bytes as of one column
 pub overflow_sub-whole : goal.overflow_sub-whole
 overflow_sub-whole c =
-    omega (arith, one_less c.least-whole.result c.args.bytes (omega (arith, c.if-whole-eq0.false)), c.requires.1.0)
+    omega (arith, one_less c.least-whole.result c.args.bytes (omega (arith, c.if-whole-eq0.false)), c.requires.le_k)
 
 pub overflow_mul-whole : goal.overflow_mul-whole
 overflow_mul-whole c = record { fits = omega (arith, few_bytes c) }

@@ -104,7 +104,7 @@ loop-n-preserved c =
       λ x step b.
           let g = c.loop-n.invariant.0 x step b in
           rw c.next_spot-spot.ensures
-          (goes_on g b a.pre.1.0.0 a.pre.1.1.1.1.0 c.loop-n-test.true (sym c.prints-printed.ensures ∙ not-false _ c.if-not-printed.false)
+          (goes_on g b a.pre.1.0.0 a.pre.1.1.1.1.0 c.loop-n-test.true (sym c.prints-printed.ensures ∙ not-false _ c.if-not-printed.false-raw)
           c.like.ensures (rw end at wrote)),
       omega (arith, c.loop-n-test.true, c.loop-n.invariant.1, a.pre.1.1.1.1.1),
     )

@@ -12,22 +12,22 @@ use Rattle.interpreter.proofs.series.place_run.Goals as goal
 
 -- what is placed is of the bytes that there are at most
 few : (q : goal.After-place_all-placed) → (q.place_all-placed.result.count ≤ q.args.most)
-few c = omega (arith, part_length c.args.most c.args.input.now c.requires.0.read.0, c.place_all-placed.ensures.0.0)
+few c = omega (arith, part_length c.args.most c.args.input.now c.requires.placeable.read.0, c.place_all-placed.ensures.count_in_bounds.0)
 
 -- the units moved by
 moved : (q : goal.After-place_all-placed)
     → (q.place_all-placed.result.done * q.args.step.0 + get_or q.args.m.now across_at 0 ≤ 28800)
-moved c = let h = c.requires.0 in
-    omega (arith, done-within c.place_all-placed.ensures.1.0 (fewer_line h.line (few c)) h.first, h.paper.0)
+moved c = let h = c.requires.placeable in
+    omega (arith, done-within c.place_all-placed.ensures.reached (fewer_line h.line (few c)) h.first, h.paper.0)
 
 pub slice_bounds-place_all-end : goal.slice_bounds-place_all-end
-slice_bounds-place_all-end c = c.requires.0.read.0
+slice_bounds-place_all-end c = c.requires.placeable.read.0
 
 pub place_all-placed-requires : goal.place_all-placed-requires
 place_all-placed-requires c =
-    let h = c.requires.0 in
+    let h = c.requires.placeable in
     let n = part_length c.args.most c.args.input.now h.read.0 in (
-      c.requires.1,
+      c.requires.walks,
       (
         (h.paper.1, (h.moves, h.fonts)),
         (h.first, (rw n (on_paper h.line h.paper.0), (omega (arith, n, h.written), omega (arith, n, h.read.1)))),
@@ -36,7 +36,7 @@ place_all-placed-requires c =
 
 pub overflow_cast-by : goal.overflow_cast-by
 overflow_cast-by c =
-    record { fits = omega (arith, le-mul_of_pos_right c.place_all-placed.result.done c.requires.0.moves, moved c) }
+    record { fits = omega (arith, le-mul_of_pos_right c.place_all-placed.result.done c.requires.placeable.moves, moved c) }
 
 pub overflow_mul-by : goal.overflow_mul-by
 overflow_mul-by c = record { fits = omega (arith, moved c) }

@@ -15,43 +15,43 @@ pub shift-requires : goal.shift-requires
 shift-requires c =
     record {
     record_size_in_bounds = omega arith;
-    fact = only_shifts c.args.b _ (sym c.requires.1 ∙ c.in-Control.is);
+    fact = only_shifts c.args.b _ (sym c.requires.s_value ∙ c.in-Control.is);
   }
 
 pub returns-in-Control : goal.returns-in-Control
 returns-in-Control c p v h =
     rw c.whole.ensures
-    (whole h _ (second-frame h _ refl c.requires.1 c.in-Control.is) (c.shift.ensures p v h.held))
+    (whole h _ (second-frame h _ refl c.requires.s_value c.in-Control.is) (c.shift.ensures p v h.held))
 
 pub returns-in-Reset : goal.returns-in-Reset
 returns-in-Reset c p v h =
     rw c.whole-in-Reset.ensures
-    (whole h _ (second-frame h _ refl c.requires.1 c.in-Reset.is) (c.reset.ensures p v h.held))
+    (whole h _ (second-frame h _ refl c.requires.s_value c.in-Reset.is) (c.reset.ensures p v h.held))
 
 pub returns-in-Mode : goal.returns-in-Mode
 returns-in-Mode c p v h =
     rw c.whole-in-Mode.ensures
-    (whole h _ (second-frame h _ refl c.requires.1 c.in-Mode.is)
+    (whole h _ (second-frame h _ refl c.requires.s_value c.in-Mode.is)
     (silently (Command.Mode c.s-in-Mode-1.given.0.0) refl (c.mode.ensures p v h.held)))
 
 pub returns-in-Switch : goal.returns-in-Switch
 returns-in-Switch c p v h =
     rw c.whole-in-Switch.ensures
-    (whole h _ (second-frame h _ refl c.requires.1 c.in-Switch.is)
+    (whole h _ (second-frame h _ refl c.requires.s_value c.in-Switch.is)
     (in-range _ _ _ refl (silently (Command.Look (Look.Switch c.s-in-Switch-1.given.0.0)) refl (c.switch.ensures p v h.held))))
 
 pub returns-in-Begins : goal.returns-in-Begins
-returns-in-Begins c p v h = rw c.waits.ensures (waited h _ (second-frame h _ refl c.requires.1 c.in-Begins.is))
+returns-in-Begins c p v h = rw c.waits.ensures (waited h _ (second-frame h _ refl c.requires.s_value c.in-Begins.is))
 
 pub returns-in-List : goal.returns-in-List
 returns-in-List c p v h =
     let opens = Command.OpenList (ListOpening.Named c.s-in-List-1.given.0.0) in
     rw (c.waits-in-List.ensures, c.named_list.ensures)
-    (whole h _ {c = opens} (second-frame h _ refl c.requires.1 c.in-List.is)
+    (whole h _ {c = opens} (second-frame h _ refl c.requires.s_value c.in-List.is)
     (allowed opens 2 refl (silently opens refl (c.open_list.ensures p v h.held))))
 
 pub returns-in-Unlisted : goal.returns-in-Unlisted
 returns-in-Unlisted c p v h =
     rw c.whole-in-Unlisted.ensures
-    (whole h _ (second-frame h _ refl c.requires.1 c.in-Unlisted.is)
+    (whole h _ (second-frame h _ refl c.requires.s_value c.in-Unlisted.is)
     (refused (Command.Refused (Refused.Escape c.args.b)) 1 h.held c.write_passed.ensures))

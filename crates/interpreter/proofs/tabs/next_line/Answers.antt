@@ -9,10 +9,10 @@ pub loop-i-init : goal.loop-i-init
 loop-i-init c = begins c.held-end.ensures
 
 pub returns-then-below : goal.returns-then-below
-returns-then-below c = finds c.loop-i.invariant c.loop-i-test.true c.if-below.true
+returns-then-below c = finds c.loop-i.invariant c.loop-i-test.true c.if-below.true-raw
 
 pub loop-i-preserved : goal.loop-i-preserved
-loop-i-preserved c = goes_on c.loop-i.invariant c.loop-i-test.true c.if-below.false
+loop-i-preserved c = goes_on c.loop-i.invariant c.loop-i-test.true c.if-below.false-raw
 
 pub returns : goal.returns
 returns c = ends c.loop-i.invariant c.loop-i-test.false

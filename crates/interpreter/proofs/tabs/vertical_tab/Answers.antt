@@ -12,21 +12,21 @@ use Rattle.interpreter.proofs.tabs.vertical_tab.Goals as goal
 
 pub returns-then-never : goal.returns-then-never
 returns-then-never c b p v h q =
-    as_line p b (rw (chosen-count h q) at c.if-never.true) (c.line_feed.ensures _ v (once-ended p b h (c.end_wide_once.ensures p v h)))
+    as_line p b (rw (chosen-count h q) at c.if-never.true-raw) (c.line_feed.ensures _ v (once-ended p b h (c.end_wide_once.ensures p v h)))
 
 pub overflow_sub-stops : goal.overflow_sub-stops
 overflow_sub-stops c =
     let m = c.args.m.now in
     let n = get_or m (channel_counts_at + get_or m chosen_at 0 % 8) 0 in
-    let z : (n ≡ 0 → ⊥) = eqb-false n 0 c.if-never.false in
+    let z : (n ≡ 0 → ⊥) = eqb-false n 0 c.if-never.false-raw in
     omega (arith, z)
 
 pub returns-then-none : goal.returns-then-none
 returns-then-none c b p v h q =
-    as-return p b (rw (chosen-count h q) at c.if-never.false) (rw (chosen-count h q) at c.if-none.true)
+    as-return p b (rw (chosen-count h q) at c.if-never.false-raw) (rw (chosen-count h q) at c.if-none.true-raw)
     (c.carriage_return.ensures _ v (once-ended p b h (c.end_wide_once-then-none.ensures p v h)))
 
 pub returns : goal.returns
 returns c b p v h q =
-    among-stops p b (rw (chosen-count h q) at c.if-never.false) (rw (chosen-count h q) at c.if-none.false)
+    among-stops p b (rw (chosen-count h q) at c.if-never.false-raw) (rw (chosen-count h q) at c.if-none.false-raw)
     (c.to_next_stop.ensures b p v h (chosen-number h q) (rw (chosen-count h q)))

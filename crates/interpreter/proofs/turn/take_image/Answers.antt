@@ -12,6 +12,6 @@ returns c =
     let b = get_or c.args.input.now 0 0 in (
       λ p v h.
           rw c.after_image_byte.ensures
-          (byte-taken c.requires.1.0.0 c.requires.1.0.1 (whole h b (image-frame h b refl) (c.image_byte-written.ensures p v h.held))),
+          (byte-taken c.requires.input_nonzero.0 c.requires.input_nonzero.1 (whole h b (image-frame h b refl) (c.image_byte-written.ensures p v h.held))),
       (omega arith, omega (arith, c.requires)),
     )

@@ -13,7 +13,7 @@ use Rattle.interpreter.proofs.turn.take_images.Goals as goal
 
 -- the byte of a column that comes
 among : (b : goal.After-image_bytes-bytes) → ((1 ≤ b.args.k) × (b.args.k ≤ b.image_bytes-bytes.result))
-among c = rw c.image_bytes-bytes.ensures (image-bounds c.requires.0.current refl).1
+among c = rw c.image_bytes-bytes.ensures (image-bounds c.requires.kept.current refl).1
 
 moves : (b : goal.After-image_bytes-bytes) → 0 < b.image_step-step.result.0
 moves c = rw c.image_step-step.ensures (step_within c.args.mode).0
@@ -31,12 +31,16 @@ done-waited c = let f = fit c in
 
 pub most_here-most-requires : goal.most_here-most-requires
 most_here-most-requires c =
-    let k = c.requires.0.current in
-    ((moves c, c.requires.1.0.1), (among c, (in-margins k, (right-most k).0)))
+    let k = c.requires.kept.current in
+    record {
+    step_nonzero = (moves c, c.requires.input_nonzero.1);
+    le_k = among c;
+    across_at_bound = (in-margins k, (right-most k).0);
+  }
 
 pub place_columns-placed-requires : goal.place_columns-placed-requires
 place_columns-placed-requires c =
-    let k = c.requires.0.current in
+    let k = c.requires.kept.current in
     let f = c.most_here-most.ensures in
     record {
       moves = moves c;
@@ -45,18 +49,18 @@ place_columns-placed-requires c =
       line = f.line;
       paper = right-most k;
       inch = inch-known k;
-      read = (f.some-input, omega (arith, f.some-input, c.requires.1.1));
+      read = (f.some-input, omega (arith, f.some-input, c.requires.input_len_bound));
       written = omega (arith, f.some-room);
     }
 
 pub take_image-requires : goal.take_image-requires
 take_image-requires c =
-    let b = image-bounds c.requires.0.current refl in
+    let b = image-bounds c.requires.kept.current refl in
     let kept = not_written c.if-n-eq0.true c.place_columns-placed.ensures.records in
     record {
     columns_nonzero = (b.0, b.1.1);
-    input_nonzero = (c.requires.1.0.0, rw kept c.requires.1.0.1);
-    input_len_bound = c.requires.1.1;
+    input_nonzero = (c.requires.input_nonzero.0, rw kept c.requires.input_nonzero.1);
+    input_len_bound = c.requires.input_len_bound;
   }
 
 pub returns-then-n-eq0 : goal.returns-then-n-eq0
@@ -65,7 +69,10 @@ returns-then-n-eq0 c =
     let same = not_moved c.before.args.m.now _ (none_done e.reached c.if-n-eq0.true (among c).1) e.moved in
     let kept = not_written c.if-n-eq0.true e.records in
     let q = c.take_image.ensures in
-    (rw (same, kept) at q.0, q.1)
+    record {
+    turn_promise = rw (same, kept) at q.0;
+    read_nonzero = q.1;
+  }
 
 pub overflow_mul-written : goal.overflow_mul-written
 overflow_mul-written c = record { fits = omega (arith, (fit c).some-room, c.before.well_formed.1.1.1.1.1.0) }

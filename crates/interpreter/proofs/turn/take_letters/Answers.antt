@@ -20,12 +20,16 @@ fit c = fewer_fit c.most_here-most.ensures c.place_run-placed.ensures.few
 
 pub most_here-most-requires : goal.most_here-most-requires
 most_here-most-requires c =
-    let k = c.requires.0.current in
-    ((advances k, c.requires.1.0.1), ((omega arith, omega arith), (in-margins k, (right-most k).0)))
+    let k = c.requires.kept.current in
+    record {
+    step_nonzero = (advances k, c.requires.input_nonzero.1);
+    le_k = (omega arith, omega arith);
+    across_at_bound = (in-margins k, (right-most k).0);
+  }
 
 pub place_run-placed-requires : goal.place_run-placed-requires
 place_run-placed-requires c =
-    let k = c.requires.0.current in
+    let k = c.requires.kept.current in
     let f = c.most_here-most.ensures in (
       record {
         moves = advances k;
@@ -34,21 +38,21 @@ place_run-placed-requires c =
         line = f.line;
         paper = right-most k;
         inch = inch-known k;
-        read = (f.some-input, omega (arith, f.some-input, c.requires.1.1.0.0));
+        read = (f.some-input, omega (arith, f.some-input, c.requires.input_len_bound.0));
         written = omega (arith, f.some-room);
       },
       record { place = place-known _ c.exact_place-first.ensures (inch-known k); each = advance-walks k },
     )
 
 pub bounds-input-0 : goal.bounds-input-0
-bounds-input-0 c = let some = c.requires.1.0.0 in search rules
+bounds-input-0 c = let some = c.requires.input_nonzero.0 in search rules
 
 pub letter-written-requires : goal.letter-written-requires
 letter-written-requires c =
-    rw (not_written c.if-n-eq0.true c.place_run-placed.ensures.records) (omega (arith, c.requires.1.0.1))
+    rw (not_written c.if-n-eq0.true c.place_run-placed.ensures.records) (omega (arith, c.requires.input_nonzero.1))
 
 pub overflow_sub-left : goal.overflow_sub-left
-overflow_sub-left c = omega (arith, c.requires.1.0.0, c.requires.1.1.0.0)
+overflow_sub-left c = omega (arith, c.requires.input_nonzero.0, c.requires.input_len_bound.0)
 
 pub returns-then-n-eq0 : goal.returns-then-n-eq0
 returns-then-n-eq0 c =
@@ -56,10 +60,10 @@ returns-then-n-eq0 c =
     let same = not_moved c.args.m.now (get_or c.args.m.now advance_at 0) (none_done e.reached c.if-n-eq0.true (omega arith)) e.moved in
     let kept = not_written c.if-n-eq0.true e.records in (
       λ p v h.
-          byte-taken c.requires.1.0.0 c.requires.1.0.1
-          (whole h _ (letter-frame h _ refl (letter-from _ _ c.requires.1.1.0.1 c.requires.1.1.1))
+          byte-taken c.requires.input_nonzero.0 c.requires.input_nonzero.1
+          (whole h _ (letter-frame h _ refl (letter-from _ _ c.requires.input_len_bound.1 c.requires.input_value))
           (rw (same, kept) at c.letter-written.ensures p v h.held)),
-      (omega arith, omega (arith, c.requires.1.0.0, c.requires.1.1.0.0)),
+      (omega arith, omega (arith, c.requires.input_nonzero.0, c.requires.input_len_bound.0)),
     )
 
 pub overflow_mul-written : goal.overflow_mul-written
@@ -70,6 +74,6 @@ returns c =
     let e = c.place_run-placed.ensures in (
       λ p v h.
           rw e.moved
-          (letters-taken h _ refl (fit c) (letters-from (is_set (get_or c.args.m.now upper_prints_at 0)) (take c.place_run-placed.result.count c.args.input.now) c.requires.1.1.0.1 e.printed) e.reached (c.letter_record-v.ensures p v h.held) e.records),
+          (letters-taken h _ refl (fit c) (letters-from (is_set (get_or c.args.m.now upper_prints_at 0)) (take c.place_run-placed.result.count c.args.input.now) c.requires.input_len_bound.1 e.printed) e.reached (c.letter_record-v.ensures p v h.held) e.records),
       (omega (arith, c.if-n-eq0.false), e.left),
     )

@@ -38,34 +38,36 @@ still l = current-after (so_far l) (bytes l) l.before.before.before.requires.0.c
 --     long (joined (so_far l) 0 (t.take-here.ensures.0 _ _ (still l)))
 
 pub loop-next-init : goal.loop-next-init
-loop-next-init c = (λ p v h. no-turn _ _ _ h, (omega arith, (c.requires.1.0.0, omega (arith, c.requires.1.0.1))))
+loop-next-init c =
+    (λ p v h. no-turn _ _ _ h, (omega arith, (c.requires.input_nonzero.0, omega (arith, c.requires.input_nonzero.1))))
 
 pub take_here-t-requires : goal.take_here-t-requires
 take_here-t-requires c =
-    let i = c.loop-next.invariant.1 in (
-      record { printer = _; stale = _; current = still c },
-      (
+    let i = c.loop-next.invariant.1 in record {
+    kept = record { printer = _; stale = _; current = still c };
+    input_nonzero = (
         (simp (length-take, length-drop) (omega (arith, i.1.0)), simp (length-take, length-drop) (omega (arith, i.1.1))),
-        simp (length-take, length-drop) (omega (arith, i.0, i.1.0, c.requires.1.1)),
-      ),
-    )
+        simp (length-take, length-drop) (omega (arith, i.0, i.1.0, c.requires.input_len_bound)),
+      );
+    input_len_bound = ;
+  }
 
 pub overflow_add-at : goal.overflow_add-at
 overflow_add-at c =
     let g = so_far c in
-    record { fits = omega (arith, within-input g 0 (c.take_here-t.ensures.0 _ _ (still c)), c.well_formed.1.0) }
+    record { fits = omega (arith, within-input g 0 (c.take_here-t.ensures.turn_promise _ _ (still c)), c.well_formed.1.0) }
 
 pub overflow_add-written : goal.overflow_add-written
 overflow_add-written c =
     let g = so_far c in
-    record { fits = omega (arith, fits (joined g 0 (c.take_here-t.ensures.0 _ _ (still c))), c.well_formed.1.1.0) }
+    record { fits = omega (arith, fits (joined g 0 (c.take_here-t.ensures.turn_promise _ _ (still c))), c.well_formed.1.1.0) }
 
 pub overflow_sub-input : goal.overflow_sub-input
-overflow_sub-input c = within-input (so_far c) 0 (c.take_here-t.ensures.0 _ _ (still c))
+overflow_sub-input c = within-input (so_far c) 0 (c.take_here-t.ensures.turn_promise _ _ (still c))
 
 pub overflow_sub-out : goal.overflow_sub-out
 overflow_sub-out c =
-    let j = joined (so_far c) 0 (c.take_here-t.ensures.0 _ _ (still c)) in
+    let j = joined (so_far c) 0 (c.take_here-t.ensures.turn_promise _ _ (still c)) in
     omega (arith, fits j, long j)
 
 pub returns-then-not-more : goal.returns-then-not-more
@@ -83,7 +85,7 @@ loop-next-smaller c =
 pub loop-next-preserved : goal.loop-next-preserved
 loop-next-preserved c =
     let q = c.take_here-t.ensures in
-    let m = c.goes_on-more.ensures (not-false _ c.if-not-more.false) in (
+    let m = c.goes_on-more.ensures (not-false _ c.if-not-more.false-raw) in (
       λ p v h. let g = c.loop-next.invariant.0 p v h in rw m.0 at (joined g c.take_here-t.result.left (q.0 _ _ (current-after g (bytes c) h))),
       (omega (arith, q.1.1, c.loop-next.invariant.1.0), (omega (arith, m.1.0), omega (arith, m.1.1))),
     )
