@@ -1,8 +1,6 @@
--- SI, or else SO: the other arm is told that the tag is not SI's, 7.
+-- SI, or else SO: the other arm is told that the control is not SI.
 use mathlib.Core.Path.{refl}
 use mathlib.Core.Logic.{⊎_elim}
-use mathlib.Core.List.{[], ◌∷◌}
-use types.Run.{miss}
 use borrow.Author.Rules.{rules}
 use Rattle.interpreter.proofs.Events.{silent_did}
 use Rattle.interpreter.proofs.controls.shift.Goals as goal
@@ -13,5 +11,5 @@ returns-in-ShiftIn c p v h = rw c.in-ShiftIn.is (c.shift_in.ensures p v h)
 pub returns-in_default : goal.returns-in_default
 returns-in_default c p v h =
     ⊎_elim (λ e. rw e (silent_did _ _ _ refl (c.wide_once.ensures p v h)))
-    (λ e. absurd (miss (0 ∷ 1 ∷ 2 ∷ 3 ∷ 4 ∷ 5 ∷ 6 ∷ 8 ∷ 9 ∷ []) 7 tt (rw e at c.in_default.is)))
+    (λ e. absurd (c.in_default.not-ShiftIn e))
     c.requires.fact

@@ -22,9 +22,8 @@ returns-in-NoSkip c p v h = rw (c.in-NoSkip.is, h.same)
 pub returns-in-Pitch : goal.returns-in-Pitch
 unfolding laid style_of
 returns-in-Pitch c p v h =
-    let k = c.k-1.given in
-    let s = with_width p.settings (with_pitch p.settings.width k.0.0) in
-    rw k.1 (width-stored h s h.small 17 c.pitch_number.ensures c.store_width.ensures refl)
+    let s = with_width p.settings (with_pitch p.settings.width c.in-Pitch.p) in
+    rw c.in-Pitch.is (width-stored h s h.small 17 c.pitch_number.ensures c.store_width.ensures refl)
 
 pub returns-in-UpperPrints : goal.returns-in-UpperPrints
 unfolding laid style_of

@@ -11,20 +11,17 @@ use Rattle.interpreter.proofs.escapes.switch.Goals as goal
 pub returns-in-Bold : goal.returns-in-Bold
 unfolding laid shown_stored
 returns-in-Bold c p v h =
-    let w = c.w-1.given in
-    rw w.1 (look-stored h (with_bold p.settings w.0.0) Shown.Bold c.flag.ensures c.store_shown.ensures refl)
+    rw c.in-Bold.is (look-stored h (with_bold p.settings c.in-Bold.on) Shown.Bold c.flag.ensures c.store_shown.ensures refl)
 
 pub returns-in-DoubleStrike : goal.returns-in-DoubleStrike
 unfolding laid shown_stored
 returns-in-DoubleStrike c p v h =
-    let w = c.w-in-DoubleStrike-1.given in
-    rw w.1 (look-stored h (with_double_strike p.settings w.0.0) Shown.DoubleStrike c.flag-in-DoubleStrike.ensures c.store_shown-in-DoubleStrike.ensures refl)
+    rw c.in-DoubleStrike.is (look-stored h (with_double_strike p.settings c.in-DoubleStrike.on) Shown.DoubleStrike c.flag-in-DoubleStrike.ensures c.store_shown-in-DoubleStrike.ensures refl)
 
 pub returns-in-Italic : goal.returns-in-Italic
 unfolding laid shown_stored
 returns-in-Italic c p v h =
-    let w = c.w-in-Italic-1.given in
-    rw w.1 (look-stored h (with_italic p.settings w.0.0) Shown.Italic c.flag-in-Italic.ensures c.store_shown-in-Italic.ensures refl)
+    rw c.in-Italic.is (look-stored h (with_italic p.settings c.in-Italic.on) Shown.Italic c.flag-in-Italic.ensures c.store_shown-in-Italic.ensures refl)
 
 pub returns-in-NoScript : goal.returns-in-NoScript
 returns-in-NoScript c p v h = rw c.in-NoScript.is (c.script.ensures p v h)

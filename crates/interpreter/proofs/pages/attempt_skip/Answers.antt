@@ -17,18 +17,18 @@ use Rattle.interpreter.proofs.pages.attempt_skip.Goals as goal
 pub overflow_cast-m : goal.overflow_cast-m
 overflow_cast-m c =
     let page = c.paper_in-paper.result.page.0 in
-    let down = c.IsPlace_in.result.down.0 in
+    let down = c.place_in-place.result.down.0 in
     let skip = c.lines-skip.result in
     let facts = holds_fact ((3600 + skip up_to page) ∷ (suc (down + skip) up_to page) ∷ [])
     (sym c.skip_fits.ensures ∙ c.if-skip_fits.true) in
-    record { fits = omega (arith, c.paper_in-paper.type-inv) }
+    record { fits = omega (arith, c.paper_in-paper.type_inv) }
 
 pub returns-then-skip_fits : goal.returns-then-skip_fits
 unfolding laid style_of
 returns-then-skip_fits c p v h =
     let n = c.args.n in
     let paper = c.paper_in-paper.ensures ∙ paper-held h in
-    let place = c.IsPlace_in.ensures ∙ place-held h in
+    let place = c.place_in-place.ensures ∙ place-held h in
     let skip : c.lines-skip.result ≡ n * line_of p.settings = rw paper at c.lines-skip.ensures.0 in
     allowed (Command.Skip n) 3 (rw (skip, paper, place) at (sym c.skip_fits.ensures ∙ c.if-skip_fits.true))
     (silently (Command.Skip n) refl (rw (skip, h.same)))
@@ -37,7 +37,7 @@ pub returns : goal.returns
 returns c p v h =
     let n = c.args.n in
     let paper = c.paper_in-paper.ensures ∙ paper-held h in
-    let place = c.IsPlace_in.ensures ∙ place-held h in
+    let place = c.place_in-place.ensures ∙ place-held h in
     let skip : c.lines-skip.result ≡ n * line_of p.settings = rw paper at c.lines-skip.ensures.0 in
     not-allowed (Command.Skip n) 3 (rw (skip, paper, place) at (sym c.skip_fits.ensures ∙ c.if-skip_fits.false)) h
     c.write_passed.ensures

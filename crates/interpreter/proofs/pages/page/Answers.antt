@@ -8,7 +8,7 @@ use Rattle.interpreter.proofs.pages.page.Goals as goal
 pub returns-then-page_fits : goal.returns-then-page_fits
 returns-then-page_fits c p v h =
     let g = c.args.g in
-    in-range _ _ _ (sym c.page_fits.ensures ∙ c.if1.true)
+    in-range _ _ _ (sym c.page_fits.ensures ∙ c.if-page_fits.true)
     (c.new_page.ensures g p v h (c.page_units-units.ensures p v h))
 
 pub returns : goal.returns

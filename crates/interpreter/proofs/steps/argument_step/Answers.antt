@@ -40,10 +40,9 @@ returns-in-ColumnsLow c p v h = rw c.waits-in-ColumnsLow.ensures (waited h _ (ar
 
 pub returns-in-ColumnsHigh : goal.returns-in-ColumnsHigh
 returns-in-ColumnsHigh c p v h =
-    let d = c.w-in-ColumnsHigh-1.given in
     let b = c.args.b in
-    rw (c.waits-in-ColumnsHigh.ensures, c.image_wait_lem.ensures)
-    (whole h _ (argument-frame h _ refl d.1) (silently (Command.OpenImage (Opening.Selected d.0.0) d.0.1.0 b) refl h.held.same))
+    rw (c.waits-in-ColumnsHigh.ensures, c.image_wait.ensures)
+    (whole h _ (argument-frame h _ refl c.in-ColumnsHigh.is) (silently (Command.OpenImage (Opening.Selected c.in-ColumnsHigh.mode) c.in-ColumnsHigh.a b) refl h.held.same))
 
 pub returns-in-ListChannel : goal.returns-in-ListChannel
 returns-in-ListChannel c p v h = c.channel_step.ensures p v (rw c.in-ListChannel.is at h)

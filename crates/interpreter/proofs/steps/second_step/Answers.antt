@@ -32,20 +32,20 @@ pub returns-in-Mode : goal.returns-in-Mode
 returns-in-Mode c p v h =
     rw c.whole-in-Mode.ensures
     (whole h _ (second-frame h _ refl c.requires.s_value c.in-Mode.is)
-    (silently (Command.Mode c.s-in-Mode-1.given.0.0) refl (c.mode.ensures p v h.held)))
+    (silently (Command.Mode c.in-Mode.k) refl (c.mode.ensures p v h.held)))
 
 pub returns-in-Switch : goal.returns-in-Switch
 returns-in-Switch c p v h =
     rw c.whole-in-Switch.ensures
     (whole h _ (second-frame h _ refl c.requires.s_value c.in-Switch.is)
-    (in-range _ _ _ refl (silently (Command.Look (Look.Switch c.s-in-Switch-1.given.0.0)) refl (c.switch.ensures p v h.held))))
+    (in-range _ _ _ refl (silently (Command.Look (Look.Switch c.in-Switch.w)) refl (c.switch.ensures p v h.held))))
 
 pub returns-in-Begins : goal.returns-in-Begins
 returns-in-Begins c p v h = rw c.waits.ensures (waited h _ (second-frame h _ refl c.requires.s_value c.in-Begins.is))
 
 pub returns-in-List : goal.returns-in-List
 returns-in-List c p v h =
-    let opens = Command.OpenList (ListOpening.Named c.s-in-List-1.given.0.0) in
+    let opens = Command.OpenList (ListOpening.Named c.in-List.t) in
     rw (c.waits-in-List.ensures, c.named_list.ensures)
     (whole h _ {c = opens} (second-frame h _ refl c.requires.s_value c.in-List.is)
     (allowed opens 2 refl (silently opens refl (c.open_list.ensures p v h.held))))

@@ -17,8 +17,7 @@ returns-in-Move c p v h =
 
 pub returns-in-Image : goal.returns-in-Image
 returns-in-Image c p v h =
-    let d = c.c-in-Image-1.given in
     let a = c.args in
-    rw (c.waits.ensures, c.image_wait_lem.ensures, c.density_mode.ensures)
-    (whole h _ (argument-frame h _ refl (ap (λ (x : Two). Begun.SecondOf x a.a) d.1))
-    (silently (Command.OpenImage (Opening.Named d.0.0) a.a a.b) refl h.held.same))
+    rw (c.waits.ensures, c.image_wait.ensures, c.density_mode.ensures)
+    (whole h _ (argument-frame h _ refl (ap (λ (x : Two). Begun.SecondOf x a.a) c.in-Image.is))
+    (silently (Command.OpenImage (Opening.Named c.in-Image.d) a.a a.b) refl h.held.same))
