@@ -5,14 +5,14 @@ ghost use Rattle.measures.specs.Encoding.{with_look};
 
 use printer::records::{Mark, Record};
 
-// A two_byte field.
+// A two-byte field.
 #[derive(Drop)]
 struct Word {
     low: u8,
     high: u8,
 }
 
-// The bytes of a two_byte field.
+// The bytes of a two-byte field.
 fn split(n: u32) -> Word
     ensures { result ≡ record { low = low n; high = high n } }
 {
@@ -87,7 +87,7 @@ fn with_look(r: Record, look: Look) -> [u8; Record::SIZE]
     ]
 }
 
-// A record's bytes: two_byte fields low byte first.
+// A record's bytes: two-byte fields low byte first.
 pub fn encoded(r: Record) -> [u8; Record::SIZE]
     ensures { result ≡ encoded r }
 {

@@ -10,7 +10,7 @@ use Rattle.printer.specs.Records.{record_size, low, high, mark_low, mark_high, e
 use Rattle.printer.specs.Decoding.{marks_of, decoded, decoded_first, decoded_all, FitsBytes}
 use Rattle.printer.specs.Types.{Mark, Record}
 
--- a two_byte number from its bytes
+-- a two-byte number from its bytes
 word : (n : ℕ) → n ≤ 65535 → low n + 256 * high n ≡ n
 word n h = omega arith
 

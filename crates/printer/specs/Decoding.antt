@@ -14,7 +14,7 @@ marks_of a b =
     (pick (both (eqb a 0x43) (eqb b 0x4C)) (Mark.Cl ∷ [])
     (pick (both (eqb a 0x4E) (eqb b 0x4F)) (Mark.No ∷ []) []))))
 
--- a two_byte number, low byte first, at a place of the bytes
+-- a two-byte number, low byte first, at a place of the bytes
 abbrev pub word_at : List ℕ → ℕ → ℕ
 word_at l i = get_or l i 0 + 256 * get_or l (i + 1) 0
 
