@@ -13,6 +13,16 @@ use printer::units::{Dots, Rest, Units};
 use registers::COUNT;
 use registers::groups::setup_in;
 
+// Writes a record's bytes over as many. (`copy_from_slice` is compiled with a test whether the two lie apart.)
+fn put(part: &mut [u8], bytes: [u8; Record::SIZE])
+    requires { length part.old ≡ record_size }
+    ensures { part.new ≡ bytes }
+{
+    if let Some(whole) = part.as_mut_array() {
+        *whole = bytes;
+    }
+}
+
 // Writes a record from `at`, and gives the place after it.
 pub(crate) fn write_record(out: &mut [u8], at: usize, r: Record) -> usize
     requires { at + record_size ≤ length out.old }
@@ -20,7 +30,7 @@ pub(crate) fn write_record(out: &mut [u8], at: usize, r: Record) -> usize
 {
     let end = at + Record::SIZE;
     let encoded = encoded(r);
-    out[at..end].copy_from_slice(&encoded);
+    put(&mut out[at..end], encoded);
     end
 }
 

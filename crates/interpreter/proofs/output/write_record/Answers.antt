@@ -7,4 +7,4 @@ use Rattle.interpreter.proofs.output.write_record.Goals as goal
 pub returns : goal.returns
 returns c =
     let a = c.args in
-    one a.out.now _ a.at a.r (omega arith) (rw c.encoded-encoded.ensures at c.copy_from_slice.ensures.after)
+    one a.out.now _ a.at a.r (omega arith) (rw c.encoded-encoded.ensures at c.put.ensures)
