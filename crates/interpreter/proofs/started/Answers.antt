@@ -6,9 +6,8 @@ use borrow.Author.Rules.{rules}
 use Rattle.interpreter.proofs.started.Goals as goal
 
 pub returns : goal.returns
-returns c =
-    (
-      refl,
-      c.store_pending.ensures
-          ∙ rw (c.pending_of.ensures, c.power_on.ensures, c.clear_channels.ensures, cleared c.args.m.now c.whole-n.ensures.1) (pended-words _ _ _),
-    )
+returns c = (
+  refl,
+  c.store_pending.ensures
+      ∙ rw (c.pending_of.ensures, c.power_on.ensures, c.clear_channels.ensures, cleared c.args.m.now c.whole-n.ensures.1) (pended-words _ _ _),
+)

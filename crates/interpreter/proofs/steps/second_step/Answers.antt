@@ -14,9 +14,9 @@ use Rattle.interpreter.proofs.steps.second_step.Goals as goal
 pub shift-requires : goal.shift-requires
 shift-requires c =
     record {
-    record_size_in_bounds = omega arith;
-    fact = only_shifts c.args.b _ (sym c.requires.s_value ∙ c.in-Control.is);
-  }
+      record_size_in_bounds = omega arith;
+      fact = only_shifts c.args.b _ (sym c.requires.s_value ∙ c.in-Control.is);
+    }
 
 pub returns-in-Control : goal.returns-in-Control
 returns-in-Control c p v h =

@@ -33,10 +33,10 @@ pub most_here-most-requires : goal.most_here-most-requires
 most_here-most-requires c =
     let k = c.requires.kept.current in
     record {
-    step_nonzero = (moves c, c.requires.input_nonzero.1);
-    le_k = among c;
-    across_at_bound = (in-margins k, (right-most k).0);
-  }
+      step_nonzero = (moves c, c.requires.input_nonzero.1);
+      le_k = among c;
+      across_at_bound = (in-margins k, (right-most k).0);
+    }
 
 pub place_columns-placed-requires : goal.place_columns-placed-requires
 place_columns-placed-requires c =
@@ -58,10 +58,10 @@ take_image-requires c =
     let b = image-bounds c.requires.kept.current refl in
     let kept = not_written c.if-n-eq0.true c.place_columns-placed.ensures.records in
     record {
-    columns_nonzero = (b.0, b.1.1);
-    input_nonzero = (c.requires.input_nonzero.0, rw kept c.requires.input_nonzero.1);
-    input_len_bound = c.requires.input_len_bound;
-  }
+      columns_nonzero = (b.0, b.1.1);
+      input_nonzero = (c.requires.input_nonzero.0, rw kept c.requires.input_nonzero.1);
+      input_len_bound = c.requires.input_len_bound;
+    }
 
 pub returns-then-n-eq0 : goal.returns-then-n-eq0
 returns-then-n-eq0 c =
@@ -70,9 +70,9 @@ returns-then-n-eq0 c =
     let kept = not_written c.if-n-eq0.true e.records in
     let q = c.take_image.ensures in
     record {
-    turn_promise = rw (same, kept) at q.0;
-    read_nonzero = q.1;
-  }
+      turn_promise = rw (same, kept) at q.0;
+      read_nonzero = q.1;
+    }
 
 pub overflow_mul-written : goal.overflow_mul-written
 overflow_mul-written c = record { fits = omega (arith, (fit c).some-room, c.before.well_formed.1.1.1.1.1.0) }

@@ -22,10 +22,10 @@ pub most_here-most-requires : goal.most_here-most-requires
 most_here-most-requires c =
     let k = c.requires.kept.current in
     record {
-    step_nonzero = (advances k, c.requires.input_nonzero.1);
-    le_k = (omega arith, omega arith);
-    across_at_bound = (in-margins k, (right-most k).0);
-  }
+      step_nonzero = (advances k, c.requires.input_nonzero.1);
+      le_k = (omega arith, omega arith);
+      across_at_bound = (in-margins k, (right-most k).0);
+    }
 
 pub place_run-placed-requires : goal.place_run-placed-requires
 place_run-placed-requires c =
