@@ -1,13 +1,10 @@
 -- The loop of a reading call: see Going. The code is safe for the printer that `requires` names; what it promises, it promises of any.
 use Prim.Native.Nat.{◌-◌}
-use native.Mathlib.Omega.{arith}
-use borrow.Author.Rules.{rules}
 use lib.ListN.{length}
 use Rattle.printer.specs.declared.state.Printer.{Printer}
 use Rattle.registers.specs.declared.pending.Pending.{Pending}
 use Rattle.interpreter.specs.Taking.{Current}
-use Rattle.printer.proofs.Types.{known_bytes}
-use Rattle.interpreter.proofs.Going.{Going, begins, input-used, allowance-used, output-full, long, part-some, part-within, room-some, within-input, within-output, goes_on, turn-less}
+use Rattle.interpreter.proofs.Going.{Going}
 use Rattle.interpreter.proofs.reading.run.Given as goal
 
 abbrev pub invariant-loop-at : goal.invariant-loop-at

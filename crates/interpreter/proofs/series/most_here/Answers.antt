@@ -1,16 +1,14 @@
 -- The least of what fits: each is a limit.
-use Prim.Native.Nat.{◌*◌, ◌≤◌}
+use Prim.Native.Nat.{ℕ, ◌*◌, ◌≤◌, ◌<◌}
 use native.Mathlib.Nat.{zero-mul, mul-le-mul_right, le-mul_of_pos_right}
 use native.Mathlib.Omega.{arith}
-use borrow.Author.Rules.{rules}
 use Rattle.printer.proofs.CodeLaws.{product}
 use Rattle.interpreter.proofs.SeriesLoop.{one_less}
 use Rattle.interpreter.proofs.series.most_here.Goals as goal
 
 -- the columns have so few bytes
-few_bytes : (w : goal.After-least-whole) → w.least-whole.result * w.args.bytes ≤ 7344000
-few_bytes c = let m = le-mul_of_pos_right c.steps_in-fitting.result c.requires.step_nonzero.0 in
-    product _ _ 28800 255 (omega (arith, c.least-whole.ensures, m, c.steps_in-fitting.ensures, c.requires.across_at_bound)) (omega (arith, c.well_formed))
+few_bytes : {whole fitting bytes step : ℕ} → 0 < step → whole ≤ fitting → fitting * step ≤ 28800 → bytes ≤ 255 → whole * bytes ≤ 7344000
+few_bytes {whole} {fitting} {bytes} s w f b = product whole bytes 28800 255 (omega (arith, le-mul_of_pos_right fitting s)) b
 
 pub returns-then-whole-eq0 : goal.returns-then-whole-eq0
 returns-then-whole-eq0 c =
@@ -43,7 +41,15 @@ overflow_sub-whole c =
     omega (arith, one_less c.least-whole.result c.args.bytes (omega (arith, c.if-whole-eq0.false)), c.requires.le_k)
 
 pub overflow_mul-whole : goal.overflow_mul-whole
-overflow_mul-whole c = record { fits = omega (arith, few_bytes c) }
+overflow_mul-whole c =
+    let k : c.least-whole.result ≤ c.steps_in-fitting.result = omega (arith, c.least-whole.ensures) in
+    let s : c.steps_in-fitting.result * c.args.step.0 ≤ 28800 = omega (arith, c.steps_in-fitting.ensures) in
+    let b : c.args.bytes ≤ 255 = omega arith in
+    record { fits = omega (arith, few_bytes c.requires.step_nonzero.0 k s b) }
 
 pub overflow_add-whole : goal.overflow_add-whole
-overflow_add-whole c = record { fits = omega (arith, few_bytes c) }
+overflow_add-whole c =
+    let k : c.least-whole.result ≤ c.steps_in-fitting.result = omega (arith, c.least-whole.ensures) in
+    let s : c.steps_in-fitting.result * c.args.step.0 ≤ 28800 = omega (arith, c.steps_in-fitting.ensures) in
+    let b : c.args.bytes ≤ 255 = omega arith in
+    record { fits = omega (arith, few_bytes c.requires.step_nonzero.0 k s b) }

@@ -1,14 +1,8 @@
 -- The loop that places the input: see SeriesLoop.
-use Prim.Native.Nat.{ℕ, ◌+◌, ◌-◌, ◌*◌, ◌≤◌}
-use mathlib.Core.Path.{◌≡◌, refl, sym, ◌∙◌}
-use native.Mathlib.Omega.{arith}
-use borrow.Author.Rules.{rules}
-use borrow.Author.Tests.{not-false}
-use lib.ListN.{length, take}
-use Rattle.printer.specs.Records.{record_size}
-use Rattle.interpreter.specs.Output.{Written}
-use Rattle.interpreter.specs.Series.{placed_all, AllPrint, Reached}
-use Rattle.interpreter.proofs.SeriesLoop.{Begun, SoFar, begins, long, few, room-enough, goes_on}
+use Prim.Native.Nat.{ℕ, ◌+◌, ◌-◌}
+use mathlib.Core.Path.{◌≡◌}
+use lib.ListN.{length}
+use Rattle.interpreter.proofs.SeriesLoop.{Begun, SoFar}
 use Rattle.interpreter.proofs.series.place_all.Given as goal
 
 abbrev pub invariant-loop-n : goal.invariant-loop-n

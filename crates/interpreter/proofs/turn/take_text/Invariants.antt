@@ -1,25 +1,18 @@
 -- The loop between commands: turns that follow each other are one.
 use Prim.Native.Nat.{◌+◌, ◌-◌, ◌<◌, ◌≤◌}
 use mathlib.Core.Path.{◌≡◌}
-use native.Mathlib.Omega.{arith}
-use borrow.Author.Rules.{rules}
-use borrow.Author.Tests.{not-false}
-use lib.ListN.{length, take, length-take, length-drop}
-use Rattle.printer.specs.Tools.{Bytes}
+use lib.ListN.{length}
 use Rattle.printer.specs.Records.{room_for_byte}
-use Rattle.printer.specs.Steps.{state_after}
 use Rattle.printer.specs.declared.commands.Waiting.{Waiting}
 use Rattle.printer.specs.declared.state.Printer.{Printer}
 use Rattle.registers.specs.declared.pending.Pending.{Pending}
-use Rattle.printer.proofs.Types.{known_bytes}
 use Rattle.interpreter.specs.Taking.{Current, TurnPromise}
-use Rattle.interpreter.proofs.Turns.{no-turn, fits, long, current-after, within-input, joined}
 use Rattle.interpreter.proofs.turn.take_text.Given as goal
 
 abbrev pub invariant-loop-next : goal.invariant-loop-next
 invariant-loop-next l =
     ((p : Printer) (v : Pending) → Current p v Waiting.Nothing l.initial.m
-    → TurnPromise p v l.input l.initial.out (record { waiting = Waiting.Nothing; read = l.at; l.written = l.written; l.left = l.left }) l.m l.out)
+    → TurnPromise p v l.input l.initial.out (record { waiting = Waiting.Nothing; read = l.at; written = l.written; left = l.left }) l.m l.out)
     × ((l.left + l.at ≡ l.allowance) × ((l.at < length l.input) × (l.written + room_for_byte ≤ length l.out)))
 
 abbrev pub decreases-loop-next : goal.decreases-loop-next
