@@ -1,5 +1,5 @@
 -- The loop of a reading call: what is left to do, after what is done, is the whole.
-use Prim.Native.Nat.{ℕ, suc, ◌+◌, ◌*◌, ◌-◌, ◌≤◌, ◌<◌, min}
+use Prim.Native.Nat.{ℕ, ◌+◌, ◌*◌, ◌-◌, ◌≤◌, ◌<◌, min}
 use mathlib.Core.Path.{◌≡◌, sym, ap, ◌∙◌}
 use mathlib.Core.List.{List, [], ◌∷◌, ◌++◌, append_assoc, append-nil}
 use native.Mathlib.Nat.{zero-add, add-zero, add_assoc, sub-zero}
@@ -19,7 +19,7 @@ use Rattle.printer.specs.declared.records.Record.{Record}
 use Rattle.printer.specs.declared.state.Printer.{Printer}
 use Rattle.printer.proofs.Choices.{bytes_take, bytes_rest}
 use Rattle.printer.proofs.Accepting.{fact_accepted}
-use Rattle.printer.proofs.KeepingSteps.{Ours, steps_ours}
+use Rattle.printer.proofs.KeepingSteps.{steps_ours}
 use Rattle.registers.specs.declared.pending.Pending.{Pending}
 use Rattle.interpreter.specs.declared.turn.Turned.{Turned}
 use Rattle.interpreter.specs.Output.{Written}

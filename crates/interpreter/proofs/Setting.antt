@@ -16,7 +16,7 @@ use Rattle.printer.specs.declared.state.Printer.{Printer}
 use Rattle.registers.specs.declared.derived.Shown.{Shown}
 use Rattle.registers.specs.declared.pending.Pending.{Pending}
 use Rattle.registers.specs.Register.{pitch_at, wide_once_at, style_at}
-use Rattle.registers.specs.Layout.{Derived, flag, pitch_number, advance_dots, derived_of, laid, words}
+use Rattle.registers.specs.Layout.{flag, pitch_number, advance_dots, laid, words}
 use Rattle.registers.specs.Groups.{is_set}
 use Rattle.registers.specs.Keeping.{shown_stored, measured}
 use Rattle.registers.specs.Held.{Small, Held}

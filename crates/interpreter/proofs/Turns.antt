@@ -1,6 +1,6 @@
 -- Turns that follow each other are one turn.
-use Prim.Native.Nat.{ℕ, ◌+◌, ◌*◌, ◌-◌, ◌≤◌, ◌<◌}
-use mathlib.Core.Path.{◌≡◌, ◌∙◌}
+use Prim.Native.Nat.{ℕ, ◌+◌, ◌*◌, ◌-◌, ◌≤◌}
+use mathlib.Core.Path.{◌≡◌}
 use mathlib.Core.List.{List, [], ◌∷◌, ◌++◌}
 use native.Mathlib.Nat.{sub-zero}
 use native.Mathlib.Omega.{arith}
@@ -8,7 +8,7 @@ use lib.ListN.{length, take, drop, length-append, length-take, length-drop}
 use lib.Seq.{take_all, take-add}
 use borrow.Rule.Slice.PartMut.{mid_of, put_mid}
 use Rattle.printer.specs.Tools.{Bytes}
-use Rattle.printer.specs.Records.{record_size, room_for_byte}
+use Rattle.printer.specs.Records.{record_size}
 use Rattle.printer.specs.Steps.{step_of, step_records, state_after, records_over}
 use Rattle.printer.specs.declared.commands.Waiting.{Waiting}
 use Rattle.printer.specs.declared.state.Printer.{Printer}
@@ -19,7 +19,6 @@ use Rattle.registers.specs.declared.pending.Pending.{Pending}
 use Rattle.registers.specs.Layout.{words}
 use Rattle.registers.proofs.State.{small}
 use Rattle.interpreter.specs.declared.turn.Turned.{Turned}
-use Rattle.interpreter.specs.Output.{Written}
 use Rattle.interpreter.specs.Taking.{Current, RoomForEach, TurnPromise}
 use Rattle.interpreter.proofs.Runs.{taken-fits}
 use Rattle.interpreter.proofs.Writes.{none, more, lent, same_length}

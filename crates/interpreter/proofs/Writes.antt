@@ -4,8 +4,8 @@ use mathlib.Core.Path.{◌≡◌, sym, ◌∙◌}
 use mathlib.Core.List.{List, [], ◌∷◌, ◌++◌, append_assoc, append-nil}
 use native.Mathlib.Nat.{add-sub_cancel_left}
 use native.Mathlib.Omega.{arith}
-use lib.ListN.{length, take, drop, length-append, length-take, length-drop, drop_of_length-le, take-append-drop}
-use lib.Seq.{drop-drop, take-length, take_all, length-take-le, take_at, drop_at}
+use lib.ListN.{length, take, drop, length-append, length-drop, drop_of_length-le, take-append-drop}
+use lib.Seq.{drop-drop, take_all, length-take-le, take_at, drop_at}
 use borrow.Rule.Slice.PartMut.{put_mid, mid_of}
 use Rattle.printer.specs.Records.{record_size, encoded, encoded_all}
 use Rattle.printer.specs.declared.records.Record.{Record}

@@ -1,6 +1,5 @@
 -- The start, by the test of its settings.
 use mathlib.Core.Path.{sym, ◌∙◌}
-use borrow.Author.Rules.{rules}
 use Rattle.printer.specs.Calls.{start_of}
 use Rattle.interpreter.proofs.Calling.{start_gives}
 use Rattle.interpreter.proofs.start.Goals as goal

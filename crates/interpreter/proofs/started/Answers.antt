@@ -2,7 +2,6 @@
 use mathlib.Core.Path.{refl, ◌∙◌}
 use Rattle.registers.proofs.State.{pended-words}
 use Rattle.interpreter.proofs.Paging.{cleared}
-use borrow.Author.Rules.{rules}
 use Rattle.interpreter.proofs.started.Goals as goal
 
 pub returns : goal.returns

@@ -1,5 +1,4 @@
 -- A control byte, each by its own function.
-use borrow.Author.Rules.{rules}
 use mathlib.Core.Path.{refl}
 use Rattle.interpreter.proofs.Events.{received, silent_did}
 use Rattle.interpreter.proofs.controls.control.Goals as goal

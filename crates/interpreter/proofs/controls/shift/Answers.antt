@@ -1,7 +1,6 @@
 -- SI, or else SO: the other arm is told that the control is not SI.
 use mathlib.Core.Path.{refl}
 use mathlib.Core.Logic.{⊎_elim}
-use borrow.Author.Rules.{rules}
 use Rattle.interpreter.proofs.Events.{silent_did}
 use Rattle.interpreter.proofs.controls.shift.Goals as goal
 

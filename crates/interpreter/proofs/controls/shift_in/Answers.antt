@@ -1,5 +1,4 @@
 -- SI: reduced letters, or passed over at 15 cpi.
-use borrow.Author.Rules.{rules}
 use mathlib.Core.Path.{refl, sym, ◌∙◌}
 use Rattle.interpreter.proofs.Outcomes.{did, one, attempt-done, attempt-passed}
 use Rattle.interpreter.proofs.Writes.{none}

@@ -3,7 +3,6 @@ use mathlib.Core.Path.{refl, sym, ◌∙◌}
 use Rattle.printer.specs.declared.commands.Command.{Command}
 use Rattle.printer.specs.declared.commands.Look.{Look}
 use Rattle.interpreter.proofs.Escaping.{in-range, out_of_range, silently}
-use borrow.Author.Rules.{rules}
 use Rattle.interpreter.proofs.escapes.choice.Goals as goal
 
 pub returns-then-choice_takes : goal.returns-then-choice_takes

@@ -4,7 +4,6 @@ use Rattle.printer.specs.Records.{style_of}
 use Rattle.printer.specs.Settings.{with_width, with_pitch}
 use Rattle.registers.specs.Layout.{laid}
 use Rattle.interpreter.proofs.Setting.{width-stored}
-use borrow.Author.Rules.{rules}
 use Rattle.interpreter.proofs.escapes.mode.Goals as goal
 
 pub returns-in-EighthInchLine : goal.returns-in-EighthInchLine

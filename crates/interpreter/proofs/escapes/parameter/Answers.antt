@@ -2,7 +2,6 @@
 use mathlib.Core.Path.{refl, sym, ◌∙◌}
 use Rattle.printer.specs.declared.commands.Command.{Command}
 use Rattle.interpreter.proofs.Escaping.{in-range, out_of_range, silently}
-use borrow.Author.Rules.{rules}
 use Rattle.interpreter.proofs.escapes.parameter.Goals as goal
 
 pub returns-then-parameter_takes : goal.returns-then-parameter_takes

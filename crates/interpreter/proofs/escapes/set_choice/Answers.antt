@@ -8,7 +8,6 @@ use Rattle.registers.specs.Layout.{flag, laid}
 use Rattle.registers.specs.Keeping.{shown_stored}
 use lib.Dec.{eqb}
 use Rattle.interpreter.proofs.Setting.{look-stored}
-use borrow.Author.Rules.{rules}
 use Rattle.interpreter.proofs.escapes.set_choice.Goals as goal
 
 pub returns-in-Script : goal.returns-in-Script

@@ -6,7 +6,6 @@ use Rattle.printer.specs.Records.{style_of}
 use Rattle.printer.specs.Settings.{with_width, with_spacing}
 use Rattle.registers.specs.Layout.{laid}
 use Rattle.interpreter.proofs.Setting.{width-stored}
-use borrow.Author.Rules.{rules}
 use Rattle.interpreter.proofs.escapes.set_parameter.Goals as goal
 
 pub returns-in-Line180ths : goal.returns-in-Line180ths

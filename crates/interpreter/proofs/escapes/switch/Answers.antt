@@ -5,7 +5,6 @@ use Rattle.registers.specs.declared.derived.Shown.{Shown}
 use Rattle.registers.specs.Layout.{laid}
 use Rattle.registers.specs.Keeping.{shown_stored}
 use Rattle.interpreter.proofs.Setting.{look-stored}
-use borrow.Author.Rules.{rules}
 use Rattle.interpreter.proofs.escapes.switch.Goals as goal
 
 pub returns-in-Bold : goal.returns-in-Bold

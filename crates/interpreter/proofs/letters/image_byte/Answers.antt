@@ -1,6 +1,5 @@
 -- An image byte: placed, or passed over.
 use mathlib.Core.Path.{refl}
-use borrow.Author.Rules.{rules}
 use Rattle.printer.specs.declared.commands.Command.{Command}
 use Rattle.printer.proofs.CodeLaws.{both_true}
 use Rattle.interpreter.proofs.Attempts.{prints}

@@ -1,6 +1,5 @@
 -- IM: the parts that the callees ensure, and those that the registers hold.
 use mathlib.Core.Path.{◌∙◌}
-use borrow.Author.Rules.{rules}
 use Rattle.registers.proofs.Reading.{setup-held}
 use Rattle.interpreter.proofs.Places.{across-held, down-held}
 use Rattle.interpreter.proofs.letters.image_record.Goals as goal

@@ -1,6 +1,5 @@
 -- A letter stays on its line, or goes to the next one.
 use mathlib.Core.Path.{sym, ◌∙◌}
-use borrow.Author.Rules.{rules}
 use Rattle.registers.proofs.Reading.{margins-held, advance-held}
 use Rattle.interpreter.proofs.Places.{across-held}
 use Rattle.interpreter.proofs.Wrapping.{letter-stays, letter-wraps}

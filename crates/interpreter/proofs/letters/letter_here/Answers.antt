@@ -1,6 +1,5 @@
 -- A letter on this line: placed, or passed over.
 use mathlib.Core.Path.{refl}
-use borrow.Author.Rules.{rules}
 use Rattle.printer.specs.declared.commands.Command.{Command}
 use Rattle.printer.proofs.CodeLaws.{both_true}
 use Rattle.registers.proofs.Reading.{advance-held}

@@ -1,5 +1,4 @@
 -- A letter after an automatic line, with two records.
-use borrow.Author.Rules.{rules}
 use native.Mathlib.Omega.{arith}
 use Rattle.interpreter.proofs.Printing.{fed-held, wraps}
 use Rattle.interpreter.proofs.letters.letter_on_next_line.Goals as goal

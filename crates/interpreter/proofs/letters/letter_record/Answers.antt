@@ -1,6 +1,5 @@
 -- TX: the parts that the callees ensure, and those that the registers hold.
 use mathlib.Core.Path.{◌∙◌}
-use borrow.Author.Rules.{rules}
 use Rattle.registers.proofs.Reading.{setup-held, advance-held}
 use Rattle.interpreter.proofs.Places.{across-held, down-held}
 use Rattle.interpreter.proofs.Printing.{style_back, font-held, country-held}

@@ -1,5 +1,4 @@
 -- CR: the left margin, and then a line if automatic line feed is set.
-use borrow.Author.Rules.{rules}
 use mathlib.Core.Path.{refl, sym, ◌∙◌}
 use borrow.Author.Tests.{eq-eqb, ne_eqb}
 use Rattle.registers.proofs.Reading.{autofeed-held}

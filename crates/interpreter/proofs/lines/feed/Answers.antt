@@ -1,5 +1,4 @@
 -- ESC J: down by n/180 inch, with the pages turned.
-use borrow.Author.Rules.{rules}
 use mathlib.Core.Path.{◌∙◌}
 use native.Mathlib.Omega.{arith}
 use Rattle.interpreter.proofs.Places.{down-held, down-stored}

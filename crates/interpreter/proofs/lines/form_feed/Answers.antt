@@ -1,5 +1,4 @@
 -- FF: the top of a new page, with its LN.
-use borrow.Author.Rules.{rules}
 use mathlib.Core.Path.{refl}
 use Rattle.interpreter.proofs.Outcomes.{one}
 use Rattle.interpreter.proofs.Events.{did-by}

@@ -1,5 +1,4 @@
 -- LF: the line amount further down, or the top of a new page.
-use borrow.Author.Rules.{rules}
 use mathlib.Core.Path.{sym, ◌∙◌}
 use Rattle.interpreter.proofs.Places.{down-held, line-held}
 use Rattle.interpreter.proofs.Feeding.{feeds, turns}

@@ -1,5 +1,4 @@
 -- SO ends, then the place is stored, and LN is written by the resolution, which stays.
-use borrow.Author.Rules.{rules}
 use Rattle.interpreter.specs.Leaving.{on_line_at}
 use Rattle.interpreter.proofs.Places.{line-stored}
 use Rattle.interpreter.proofs.lines.line_to.Goals as goal

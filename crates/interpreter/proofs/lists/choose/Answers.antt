@@ -5,7 +5,6 @@ use borrow.Author.Tests.{le-leb, lt-leb}
 use Rattle.printer.specs.declared.commands.Command.{Command}
 use Rattle.registers.specs.Layout.{laid}
 use Rattle.interpreter.proofs.Escaping.{silently, allowed, not-allowed}
-use borrow.Author.Rules.{rules}
 use Rattle.interpreter.proofs.lists.choose.Goals as goal
 
 pub returns-then-n-le7 : goal.returns-then-n-le7

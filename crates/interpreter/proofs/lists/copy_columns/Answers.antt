@@ -1,12 +1,11 @@
 -- The gathered list over that of the columns.
-use Prim.Native.Nat.{◌+◌, ◌-◌, ◌≤◌}
+use Prim.Native.Nat.{◌+◌}
 use mathlib.Core.Path.{◌≡◌, sym, ◌∙◌}
 use native.Mathlib.Omega.{arith}
-use borrow.Author.Rules.{rules}
-use lib.ListN.{length, drop, length-drop}
+use lib.ListN.{length-drop}
 use lib.Seq.{get_or-drop}
-use Rattle.registers.specs.Register.{column_count_at, gathered_count_at, register_count}
-use Rattle.interpreter.proofs.Pasting.{Laid, begins, goes_on, still}
+use Rattle.registers.specs.Register.{gathered_count_at}
+use Rattle.interpreter.proofs.Pasting.{begins, goes_on, still}
 use Rattle.interpreter.proofs.lists.copy_columns.Goals as goal
 
 pub loop-i-init : goal.loop-i-init

@@ -1,12 +1,9 @@
 -- The gathered list over that of the columns.
-use Prim.Native.Nat.{◌+◌, ◌-◌, ◌≤◌}
-use mathlib.Core.Path.{◌≡◌, sym, ◌∙◌}
-use native.Mathlib.Omega.{arith}
-use borrow.Author.Rules.{rules}
-use lib.ListN.{length, drop, length-drop}
-use lib.Seq.{get_or-drop}
+use Prim.Native.Nat.{◌-◌, ◌≤◌}
+use mathlib.Core.Path.{◌≡◌}
+use lib.ListN.{length, drop}
 use Rattle.registers.specs.Register.{column_count_at, gathered_count_at, register_count}
-use Rattle.interpreter.proofs.Pasting.{Laid, begins, goes_on, still}
+use Rattle.interpreter.proofs.Pasting.{Laid}
 use Rattle.interpreter.proofs.lists.copy_columns.Given as goal
 
 abbrev pub invariant-loop-i : goal.invariant-loop-i

@@ -1,12 +1,9 @@
 -- The gathered stops over the places of a channel.
 use Prim.Native.Nat.{◌+◌, ◌*◌, ◌-◌, ◌≤◌}
-use mathlib.Core.Path.{◌≡◌, sym, ◌∙◌}
-use native.Mathlib.Omega.{arith}
-use borrow.Author.Rules.{rules}
-use lib.ListN.{length, drop, length-drop}
-use lib.Seq.{get_or-drop}
+use mathlib.Core.Path.{◌≡◌}
+use lib.ListN.{length, drop}
 use Rattle.registers.specs.Register.{gathered_stops_at, channel_stops_at, register_count}
-use Rattle.interpreter.proofs.Pasting.{Laid, begins, goes_on, unmoved}
+use Rattle.interpreter.proofs.Pasting.{Laid}
 use Rattle.interpreter.proofs.lists.copy_lines.Given as goal
 
 abbrev pub invariant-loop-i : goal.invariant-loop-i

@@ -1,6 +1,5 @@
 -- The list replaces the stops in force, of the columns or of a channel.
 use Rattle.interpreter.proofs.StopWords.{columns-copied}
-use borrow.Author.Rules.{rules}
 use Rattle.interpreter.proofs.lists.end_list.Goals as goal
 
 pub returns-in-Columns : goal.returns-in-Columns

@@ -1,7 +1,6 @@
 -- A byte of a list: one more stop, or passed over.
 use mathlib.Core.Path.{refl, sym, ap, ◌∙◌}
 use native.Mathlib.Omega.{arith}
-use borrow.Author.Rules.{rules}
 use mathlib.Core.List.{[]}
 use Rattle.printer.specs.Settings.{column_of}
 use Rattle.printer.specs.Performing.{done}

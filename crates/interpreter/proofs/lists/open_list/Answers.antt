@@ -1,13 +1,12 @@
 -- Zeros over the gathered list.
-use Prim.Native.Nat.{ℕ, ◌-◌, ◌≤◌}
-use mathlib.Core.Path.{◌≡◌, sym, ap, ◌∙◌}
+use Prim.Native.Nat.{ℕ}
+use mathlib.Core.Path.{sym, ap, ◌∙◌}
 use mathlib.Core.List.{List}
 use native.Mathlib.Omega.{arith}
-use borrow.Author.Rules.{rules}
 use lib.ListN.{length, replicate, get_or-replicate}
 use lib.Seq.{paste}
-use Rattle.registers.specs.Register.{gathered_count_at, register_count}
-use Rattle.interpreter.proofs.Pasting.{Laid, begins, goes_on, whole}
+use Rattle.registers.specs.Register.{gathered_count_at}
+use Rattle.interpreter.proofs.Pasting.{begins, goes_on, whole}
 use Rattle.interpreter.proofs.StopWords.{words-length, emptied}
 use Rattle.interpreter.proofs.lists.open_list.Goals as goal
 

@@ -1,14 +1,9 @@
 -- Zeros over the gathered list.
-use Prim.Native.Nat.{ℕ, ◌-◌, ◌≤◌}
-use mathlib.Core.Path.{◌≡◌, sym, ap, ◌∙◌}
-use mathlib.Core.List.{List}
-use native.Mathlib.Omega.{arith}
-use borrow.Author.Rules.{rules}
-use lib.ListN.{length, replicate, get_or-replicate}
-use lib.Seq.{paste}
+use Prim.Native.Nat.{◌-◌, ◌≤◌}
+use mathlib.Core.Path.{◌≡◌}
+use lib.ListN.{length, replicate}
 use Rattle.registers.specs.Register.{gathered_count_at, register_count}
-use Rattle.interpreter.proofs.Pasting.{Laid, begins, goes_on, whole}
-use Rattle.interpreter.proofs.StopWords.{words-length, emptied}
+use Rattle.interpreter.proofs.Pasting.{Laid}
 use Rattle.interpreter.proofs.lists.open_list.Given as goal
 
 abbrev pub invariant-loop-i : goal.invariant-loop-i

@@ -7,7 +7,6 @@ use Rattle.printer.specs.Performing.{with_parts, stops_of, with_channel}
 use Rattle.registers.specs.Register.{channel_counts_at}
 use Rattle.registers.specs.Held.{Held}
 use Rattle.interpreter.proofs.StopWords.{count_held, channel-copied}
-use borrow.Author.Rules.{rules}
 use Rattle.interpreter.proofs.lists.set_channel.Goals as goal
 
 pub returns : goal.returns

@@ -1,5 +1,4 @@
 -- So many columns as a left margin.
-use borrow.Author.Rules.{rules}
 use borrow.Author.Tests.{lt-ltb, le-ltb}
 use Rattle.interpreter.specs.Reaching.{reach}
 use Rattle.interpreter.proofs.margins.left_column.Goals as goal

@@ -1,5 +1,4 @@
 -- Stored where they stand, and CL.
-use borrow.Author.Rules.{rules}
 use Rattle.interpreter.proofs.Places.{margins-stored}
 use Rattle.interpreter.proofs.margins.margins_set.Goals as goal
 

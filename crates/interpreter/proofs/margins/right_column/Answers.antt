@@ -1,5 +1,4 @@
 -- So many columns as a right margin.
-use borrow.Author.Rules.{rules}
 use borrow.Author.Tests.{leb-true}
 use lib.Dec.{leb, ltb}
 use native.Mathlib.Omega.{arith}

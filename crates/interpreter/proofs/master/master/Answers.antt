@@ -10,7 +10,6 @@ use Rattle.registers.proofs.Laws.{set_flag}
 use Rattle.registers.proofs.Styles.{Styled, styled-held, pitch-kept, shown-kept, double-kept}
 use Rattle.interpreter.specs.Storing.{master_width_in, master_emphasis_in}
 use Rattle.interpreter.proofs.Setting.{widths-kept}
-use borrow.Author.Rules.{rules}
 use Rattle.interpreter.proofs.master.master.Goals as goal
 
 width-kept : {m : List ℕ} → Styled m → (n : ℕ) → Styled (master_width_in m n)

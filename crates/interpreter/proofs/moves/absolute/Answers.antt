@@ -1,5 +1,4 @@
 -- ESC $: to the right from the left margin.
-use borrow.Author.Rules.{rules}
 use mathlib.Core.Path.{refl}
 use Rattle.printer.proofs.CodeLaws.{both_true}
 use Rattle.interpreter.proofs.Places.{left-held, right-held}

@@ -1,5 +1,4 @@
 -- BS: to the left by the advance.
-use borrow.Author.Rules.{rules}
 use mathlib.Core.Path.{refl}
 use Rattle.printer.proofs.CodeLaws.{both_true}
 use Rattle.registers.proofs.Reading.{advance-held}

@@ -1,5 +1,4 @@
 -- A move to a position, or passed over.
-use borrow.Author.Rules.{rules}
 use Rattle.interpreter.proofs.Writes.{none}
 use Rattle.interpreter.proofs.moves.move_or_pass.Goals as goal
 

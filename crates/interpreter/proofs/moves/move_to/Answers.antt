@@ -1,5 +1,4 @@
 -- Stored where it stands.
-use borrow.Author.Rules.{rules}
 use Rattle.interpreter.proofs.Places.{across-stored}
 use Rattle.interpreter.proofs.moves.move_to.Goals as goal
 

@@ -1,5 +1,4 @@
 -- ESC \: a signed move.
-use borrow.Author.Rules.{rules}
 use mathlib.Core.Path.{◌∙◌}
 use Rattle.registers.proofs.Reading.{margins-held, draft-held}
 use Rattle.interpreter.proofs.Places.{across-held}

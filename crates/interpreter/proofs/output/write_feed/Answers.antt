@@ -1,6 +1,5 @@
 -- LN, by the resolution that the registers hold.
 use mathlib.Core.Path.{◌∙◌}
-use borrow.Author.Rules.{rules}
 use Rattle.registers.proofs.Reading.{setup-held}
 use Rattle.interpreter.proofs.output.write_feed.Goals as goal
 

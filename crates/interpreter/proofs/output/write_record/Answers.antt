@@ -1,5 +1,4 @@
 -- A record's bytes, copied over a part of the output.
-use borrow.Author.Rules.{rules}
 use native.Mathlib.Omega.{arith}
 use Rattle.interpreter.proofs.Writes.{one}
 use Rattle.interpreter.proofs.output.write_record.Goals as goal

@@ -11,7 +11,6 @@ use Rattle.printer.proofs.Choices.{holds_fact}
 use Rattle.registers.specs.Layout.{laid}
 use Rattle.registers.proofs.Reading.{paper-held, place-held}
 use Rattle.interpreter.proofs.Escaping.{allowed, not-allowed, silently}
-use borrow.Author.Rules.{rules}
 use Rattle.interpreter.proofs.pages.attempt_skip.Goals as goal
 
 pub overflow_cast-m : goal.overflow_cast-m

@@ -1,5 +1,4 @@
 -- A length within its bounds gives a new page and its top, and any other is passed over.
-use mathlib.Core.Path.{◌≡◌, refl, sym, ◌∙◌}
 use native.Mathlib.Omega.{arith}
 use Rattle.printer.specs.Records.{style_of}
 use Rattle.printer.specs.Performing.{done, perform}
@@ -9,7 +8,6 @@ use Rattle.printer.proofs.CodeLaws.{both_true}
 use Rattle.registers.specs.Layout.{laid}
 use Rattle.interpreter.proofs.Escaping.{performed, allowed, not-allowed}
 use Rattle.interpreter.proofs.Paging.{shows-page}
-use borrow.Author.Rules.{rules}
 use Rattle.interpreter.proofs.pages.new_page.Goals as goal
 
 pub overflow_cast-m : goal.overflow_cast-m

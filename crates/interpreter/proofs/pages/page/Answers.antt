@@ -2,7 +2,6 @@
 use mathlib.Core.Path.{sym, ◌∙◌}
 use Rattle.interpreter.proofs.Escaping.{in-range, out_of_range}
 use Rattle.interpreter.proofs.Paging.{shows-page}
-use borrow.Author.Rules.{rules}
 use Rattle.interpreter.proofs.pages.page.Goals as goal
 
 pub returns-then-page_fits : goal.returns-then-page_fits

@@ -1,7 +1,6 @@
 -- Lines of the amount that the registers hold, or inches.
 use mathlib.Core.Path.{◌∙◌}
 use Rattle.registers.proofs.Reading.{paper-held}
-use borrow.Author.Rules.{rules}
 use Rattle.interpreter.proofs.pages.page_units.Goals as goal
 
 pub returns-in-Lines : goal.returns-in-Lines

@@ -5,7 +5,6 @@ use Rattle.printer.specs.declared.commands.Command.{Command}
 use Rattle.registers.proofs.Reading.{setup-held}
 use Rattle.interpreter.proofs.Escaping.{performed}
 use Rattle.interpreter.proofs.Paging.{reset_held}
-use borrow.Author.Rules.{rules}
 use Rattle.interpreter.proofs.pages.reset.Goals as goal
 
 pub returns : goal.returns

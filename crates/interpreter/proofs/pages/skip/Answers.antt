@@ -1,6 +1,5 @@
 -- ESC N: tried in its range, and else passed over.
 use Rattle.interpreter.proofs.Escaping.{in-range, out_of_range}
-use borrow.Author.Rules.{rules}
 use Rattle.interpreter.proofs.pages.skip.Goals as goal
 
 pub returns-then-fits : goal.returns-then-fits

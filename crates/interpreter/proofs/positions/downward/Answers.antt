@@ -1,5 +1,4 @@
 -- Down the page: the sum is above the edge, or outside.
-use borrow.Author.Rules.{rules}
 use borrow.Author.Tests.{lt-ltb, le-ltb}
 use Rattle.interpreter.specs.Reaching.{reach}
 use Rattle.interpreter.proofs.positions.downward.Goals as goal

@@ -1,7 +1,6 @@
 -- The edge: page length less skip, or 0 if the skip is longer.
 use Prim.Native.Nat.{◌-◌}
 use mathlib.Core.Path.{◌≡◌, ap}
-use borrow.Author.Rules.{rules}
 use native.Mathlib.Omega.{arith}
 use Rattle.printer.specs.Units.{units}
 use Rattle.printer.specs.Settings.{edge_of}

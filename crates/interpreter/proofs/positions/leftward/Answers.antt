@@ -1,5 +1,4 @@
 -- To the left: the difference is within the left margin, or outside.
-use borrow.Author.Rules.{rules}
 use borrow.Author.Tests.{le-leb, lt-leb}
 use Rattle.interpreter.specs.Reaching.{reach}
 use Rattle.interpreter.proofs.positions.leftward.Goals as goal

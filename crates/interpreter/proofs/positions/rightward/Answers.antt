@@ -1,5 +1,4 @@
 -- To the right: the sum is within the right margin, or outside.
-use borrow.Author.Rules.{rules}
 use borrow.Author.Tests.{le-leb, lt-leb}
 use Rattle.interpreter.specs.Reaching.{reach}
 use Rattle.interpreter.proofs.positions.rightward.Goals as goal

@@ -17,8 +17,8 @@ returns-then-left-eq0 c =
 pub returns-then-room-lt-ROOM : goal.returns-then-room-lt-ROOM
 returns-then-room-lt-ROOM c =
     λ p v h.
-        rw c.ended-then-room-lt-ROOM.ensures
-        (output-full (c.loop-at.invariant p v h) c.if-at-input.false c.if-left-eq0.false c.if-room-lt-ROOM.true)
+    rw c.ended-then-room-lt-ROOM.ensures
+    (output-full (c.loop-at.invariant p v h) c.if-at-input.false c.if-left-eq0.false c.if-room-lt-ROOM.true)
 
 pub turn-t-requires-clause-kept : goal.turn-t-requires-clause-kept
 turn-t-requires-clause-kept c =
@@ -32,7 +32,7 @@ overflow_add-written c =
 pub loop-at-preserved : goal.loop-at-preserved
 loop-at-preserved c =
     λ p v h.
-        let g = c.loop-at.invariant p v h in
-        goes_on g c.least.ensures (c.turn-t.ensures.turn_promise _ _ g.current)
-        (known_bytes c.args.input.now (λ i. omega (arith, c.type_inv.input i)))
-        c.turn-t.ensures.read_nonzero.1
+    let g = c.loop-at.invariant p v h in
+    goes_on g c.least.ensures (c.turn-t.ensures.turn_promise _ _ g.current)
+    (known_bytes c.args.input.now (λ i. omega (arith, c.type_inv.input i)))
+    c.turn-t.ensures.read_nonzero.1

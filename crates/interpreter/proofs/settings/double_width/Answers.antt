@@ -10,7 +10,6 @@ use Rattle.registers.proofs.Laws.{set_flag}
 use Rattle.registers.proofs.Styles.{styled-held, double-kept}
 use Rattle.interpreter.specs.Storing.{doubled_in}
 use Rattle.interpreter.proofs.Setting.{widths-kept}
-use borrow.Author.Rules.{rules}
 use Rattle.interpreter.proofs.settings.double_width.Goals as goal
 
 pub returns : goal.returns

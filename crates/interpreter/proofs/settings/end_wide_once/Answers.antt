@@ -1,5 +1,4 @@
 -- Where SO is not in force, its end changes nothing.
-use borrow.Author.Rules.{rules}
 use Rattle.interpreter.proofs.Setting.{wide_once_off}
 use Rattle.interpreter.proofs.settings.end_wide_once.Goals as goal
 

@@ -1,6 +1,5 @@
 -- The flag stored, and the widths kept.
 use mathlib.Core.Path.{refl, ◌∙◌}
-use borrow.Author.Rules.{rules}
 use Rattle.printer.specs.Settings.{with_width, with_reduced}
 use Rattle.registers.specs.declared.derived.Shown.{Shown}
 use Rattle.registers.specs.Layout.{laid}

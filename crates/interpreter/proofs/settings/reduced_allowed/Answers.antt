@@ -1,5 +1,4 @@
 -- SI is allowed at 10 and 12 cpi.
-use borrow.Author.Rules.{rules}
 use Rattle.interpreter.proofs.Setting.{reduced_by_pitch}
 use Rattle.interpreter.proofs.settings.reduced_allowed.Goals as goal
 

@@ -8,7 +8,6 @@ use Rattle.registers.specs.Layout.{flag, laid}
 use Rattle.registers.specs.Keeping.{shown_stored}
 use Rattle.registers.proofs.Styles.{styled-held, shown-kept}
 use Rattle.interpreter.proofs.Setting.{look-kept}
-use borrow.Author.Rules.{rules}
 use Rattle.interpreter.proofs.settings.script.Goals as goal
 
 pub returns : goal.returns

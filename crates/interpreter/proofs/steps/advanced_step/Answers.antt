@@ -1,6 +1,5 @@
 -- The third byte of ESC i: an argument is waited for, or the command is whole and writes nothing, or a NO.
 use mathlib.Core.Path.{refl, ◌∙◌}
-use borrow.Author.Rules.{rules}
 use borrow.Author.Tests.{ne_eqb}
 use Rattle.printer.specs.declared.commands.Command.{Command}
 use Rattle.printer.specs.declared.commands.Refused.{Refused}

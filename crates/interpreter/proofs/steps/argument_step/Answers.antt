@@ -4,7 +4,6 @@ use Rattle.printer.specs.declared.commands.Command.{Command}
 use Rattle.printer.specs.declared.commands.Opening.{Opening}
 use Rattle.interpreter.proofs.Escaping.{silently}
 use Rattle.interpreter.proofs.Stepping.{argument-frame, waited, whole}
-use borrow.Author.Rules.{rules}
 use Rattle.interpreter.proofs.steps.argument_step.Goals as goal
 
 pub returns-in-One : goal.returns-in-One

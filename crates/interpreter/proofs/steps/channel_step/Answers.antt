@@ -6,7 +6,6 @@ use Rattle.printer.specs.declared.commands.Command.{Command}
 use Rattle.printer.specs.declared.commands.ListOpening.{ListOpening}
 use Rattle.interpreter.proofs.Escaping.{silently, allowed, not-allowed}
 use Rattle.interpreter.proofs.Stepping.{argument-frame, whole}
-use borrow.Author.Rules.{rules}
 use Rattle.interpreter.proofs.steps.channel_step.Goals as goal
 
 pub returns-then-c-le7 : goal.returns-then-c-le7

@@ -1,6 +1,5 @@
 -- A byte between commands that is no letter: a control, an escape's first byte, or passed over.
 use mathlib.Core.Path.{refl, ◌∙◌, ap}
-use borrow.Author.Rules.{rules}
 use Rattle.printer.specs.Framing.{first_frame}
 use Rattle.printer.specs.declared.commands.Command.{Command}
 use Rattle.printer.specs.declared.commands.First.{First}

@@ -1,5 +1,4 @@
 -- By whether it sets stops.
-use borrow.Author.Rules.{rules}
 use Rattle.interpreter.proofs.steps.list_step.Goals as goal
 
 pub returns-in-Sets : goal.returns-in-Sets

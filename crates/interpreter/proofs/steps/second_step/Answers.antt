@@ -8,7 +8,6 @@ use Rattle.printer.specs.declared.commands.Refused.{Refused}
 use Rattle.interpreter.proofs.Escaping.{refused, silently, in-range, allowed}
 use Rattle.interpreter.proofs.Shifts.{only_shifts}
 use Rattle.interpreter.proofs.Stepping.{second-frame, waited, whole}
-use borrow.Author.Rules.{rules}
 use Rattle.interpreter.proofs.steps.second_step.Goals as goal
 
 pub shift-requires : goal.shift-requires

@@ -1,5 +1,4 @@
 -- The mode of ESC *: the number of columns is waited for, or a NO.
-use borrow.Author.Rules.{rules}
 use mathlib.Core.Path.{refl, sym, ap, ◌∙◌}
 use Rattle.printer.specs.Framing.{selected_frame}
 use Rattle.printer.specs.declared.commands.Command.{Command}

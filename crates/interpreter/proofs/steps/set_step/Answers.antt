@@ -7,7 +7,6 @@ use Rattle.printer.specs.declared.commands.Listing.{Listing}
 use Rattle.printer.specs.declared.commands.ListPart.{ListPart}
 use Rattle.interpreter.proofs.Escaping.{silently, allowed}
 use Rattle.interpreter.proofs.Stepping.{list-frame, whole}
-use borrow.Author.Rules.{rules}
 use Rattle.interpreter.proofs.steps.set_step.Goals as goal
 
 pub returns-then-b-before : goal.returns-then-b-before

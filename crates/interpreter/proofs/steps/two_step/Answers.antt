@@ -1,6 +1,5 @@
 -- The second of two arguments: a move, or how many bytes of an image follow.
 use mathlib.Core.Path.{refl, ap}
-use borrow.Author.Rules.{rules}
 use Rattle.printer.specs.declared.commands.Begun.{Begun}
 use Rattle.printer.specs.declared.commands.Command.{Command}
 use Rattle.printer.specs.declared.commands.Opening.{Opening}

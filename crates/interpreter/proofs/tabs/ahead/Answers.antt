@@ -1,5 +1,4 @@
 -- HT's test of a position.
-use borrow.Author.Rules.{rules}
 use borrow.Author.Tests.{leb-true}
 use lib.Dec.{ltb}
 use native.Mathlib.Omega.{arith}

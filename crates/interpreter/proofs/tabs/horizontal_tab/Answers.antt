@@ -1,6 +1,5 @@
 -- HT: to the stop that the search finds, or passed over.
 use mathlib.Core.Path.{refl, sym, ◌∙◌}
-use borrow.Author.Rules.{rules}
 use Rattle.interpreter.proofs.Outcomes.{did}
 use Rattle.interpreter.proofs.Writes.{none}
 use Rattle.interpreter.proofs.StopWords.{column-sought}

@@ -1,12 +1,10 @@
 -- The loop over the columns: what is found among those left is what is found among all.
-use Prim.Native.Nat.{ℕ, ◌+◌, ◌-◌}
+use Prim.Native.Nat.{ℕ, ◌+◌}
 use mathlib.Core.Path.{sym, ap, ◌∙◌}
-use borrow.Author.Rules.{rules}
 use Rattle.printer.specs.Units.{units}
 use Rattle.printer.specs.declared.stops.Stop.{Stop}
-use Rattle.interpreter.specs.Searching.{column_at, is_ahead}
 use Rattle.interpreter.proofs.Attempts.{reached, unreached}
-use Rattle.interpreter.proofs.Searches.{Left, begins, finds, goes_on, ends}
+use Rattle.interpreter.proofs.Searches.{begins, finds, goes_on, ends}
 use Rattle.interpreter.proofs.tabs.next_column.Goals as goal
 
 pub loop-i-init : goal.loop-i-init

@@ -1,8 +1,5 @@
 -- The loop over the vertical stops: what is found among those left is what is found among all.
-use Prim.Native.Nat.{◌-◌}
-use borrow.Author.Rules.{rules}
-use lib.Dec.{ltb}
-use Rattle.interpreter.proofs.Searches.{Left, begins, finds, goes_on, ends}
+use Rattle.interpreter.proofs.Searches.{begins, finds, goes_on, ends}
 use Rattle.interpreter.proofs.tabs.next_line.Goals as goal
 
 pub loop-i-init : goal.loop-i-init

@@ -1,8 +1,7 @@
 -- The loop over the vertical stops: what is found among those left is what is found among all.
 use Prim.Native.Nat.{◌-◌}
-use borrow.Author.Rules.{rules}
 use lib.Dec.{ltb}
-use Rattle.interpreter.proofs.Searches.{Left, begins, finds, goes_on, ends}
+use Rattle.interpreter.proofs.Searches.{Left}
 use Rattle.interpreter.proofs.tabs.next_line.Given as goal
 
 abbrev pub invariant-loop-i : goal.invariant-loop-i

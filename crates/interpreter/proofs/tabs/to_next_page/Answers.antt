@@ -1,5 +1,4 @@
 -- VT as FF.
-use borrow.Author.Rules.{rules}
 use Rattle.interpreter.proofs.Tabbing.{as-form, once-ended}
 use Rattle.interpreter.proofs.tabs.to_next_page.Goals as goal
 

@@ -1,10 +1,8 @@
 -- VT among stops: to the one that the search finds, or as FF.
 use mathlib.Core.Path.{refl, sym, ◌∙◌}
-use native.Mathlib.Omega.{arith}
 use Rattle.interpreter.proofs.Events.{did-by}
 use Rattle.interpreter.proofs.StopWords.{line-sought}
 use Rattle.interpreter.proofs.Tabbing.{stop-done, stop-below, stop-missing}
-use borrow.Author.Rules.{rules}
 use Rattle.interpreter.proofs.tabs.to_next_stop.Goals as goal
 
 pub returns-in_default : goal.returns-in_default

@@ -7,7 +7,6 @@ use borrow.Author.Tests.{eqb-false}
 use Rattle.registers.specs.Register.{chosen_at, channel_counts_at}
 use Rattle.interpreter.proofs.StopWords.{chosen-number, chosen-count}
 use Rattle.interpreter.proofs.Tabbing.{once-ended, as-return, among-stops, as_line}
-use borrow.Author.Rules.{rules}
 use Rattle.interpreter.proofs.tabs.vertical_tab.Goals as goal
 
 pub returns-then-never : goal.returns-then-never

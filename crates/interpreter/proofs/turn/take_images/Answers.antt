@@ -39,6 +39,6 @@ returns-clause-turn_promise c =
     let e = c.image_bytes-bytes.ensures in
     let g = c.place_columns-placed.ensures in
     λ p v h.
-        rw (g.moved, c.columns_wait.ensures, s)
-        (columns-taken h _ refl (rw (s, e) at (fewer_fit c.most_here-most.ensures g.few)) (rw e at g.reached)
-        (rw c.column_part.ensures at (c.image_record-v.ensures p v h.held)) (rw (s, e) at g.records))
+    rw (g.moved, c.columns_wait.ensures, s)
+    (columns-taken h _ refl (rw (s, e) at (fewer_fit c.most_here-most.ensures g.few)) (rw e at g.reached)
+    (rw c.column_part.ensures at (c.image_record-v.ensures p v h.held)) (rw (s, e) at g.records))

@@ -43,15 +43,15 @@ returns-then-n-eq0-clause-turn_promise c =
     let same = not_moved c.args.m.now (get_or c.args.m.now advance_at 0) (none_done e.reached c.if-n-eq0.true (omega arith)) e.moved in
     let kept = not_written c.if-n-eq0.true e.records in
     λ p v h.
-        byte-taken r.input_nonzero.0 r.input_nonzero.1
-        (whole h _ (letter-frame h _ refl (letter-from _ _ r.input_len_bound.1 r.input_value))
-        (rw (same, kept) at c.letter-written.ensures p v h.held))
+    byte-taken r.input_nonzero.0 r.input_nonzero.1
+    (whole h _ (letter-frame h _ refl (letter-from _ _ r.input_len_bound.1 r.input_value))
+    (rw (same, kept) at c.letter-written.ensures p v h.held))
 
 pub returns-clause-turn_promise : goal.returns-clause-turn_promise
 returns-clause-turn_promise c =
     let e = c.place_run-placed.ensures in
     λ p v h.
-        rw e.moved
-        (letters-taken h _ refl (fewer_fit c.most_here-most.ensures e.few)
-        (letters-from (is_set (get_or c.args.m.now upper_prints_at 0)) (take c.place_run-placed.result.count c.args.input.now) c.requires.input_len_bound.1 e.printed)
-        e.reached (c.letter_record-v.ensures p v h.held) e.records)
+    rw e.moved
+    (letters-taken h _ refl (fewer_fit c.most_here-most.ensures e.few)
+    (letters-from (is_set (get_or c.args.m.now upper_prints_at 0)) (take c.place_run-placed.result.count c.args.input.now) c.requires.input_len_bound.1 e.printed)
+    e.reached (c.letter_record-v.ensures p v h.held) e.records)
