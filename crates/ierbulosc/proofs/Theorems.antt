@@ -10,7 +10,6 @@ use lib.Seq.{take-append_seam}
 use Rattle.printer.specs.Tools.{Each, Bytes}
 use Rattle.printer.specs.Accepted.{Ours}
 use Rattle.printer.specs.Records.{room_for_byte, encoded_all}
-use Rattle.printer.specs.Steps.{state_after, records_over}
 use Rattle.printer.specs.Calls.{call_of, start_of, number_of}
 use Rattle.printer.specs.Promises.{ReadingPromise}
 use Rattle.printer.specs.Cutting.{Readings, joined_input, last_state, joined_output, bytes_read, ReadToEnd, Resumed, Leaves}
@@ -81,7 +80,7 @@ module _ (c : LibraryRead) (a : accepted_in c.state ≡ true) (h : KeptRead c) w
 on_registers : (p : Printer) (m : List ℕ) → Ours p → m ≡ registers_of p → (l : List LibraryCall) → Linked m l → ReadersCalls p l
 on_registers p m o e [] h = record { calls = tt; same = tt }
 on_registers p m o e (starts c ∷ l) h =
-    let r = on_registers _ c.left (start_ours (settings_in c.given)) h.0.state l h.1 in
+    let r = on_registers (start_of (settings_in c.given)).printer c.left (start_ours (settings_in c.given)) h.0.state l h.1 in
     record { calls = (start_promise _ _ refl, r.calls); same = ((h.0.answer, h.0.state), r.same) }
 on_registers p m o e (reads c ∷ l) h =
     let f : c.state ≡ registers_of p = h.0.0 ∙ e in
@@ -89,7 +88,7 @@ on_registers p m o e (reads c ∷ l) h =
     let i : printer_in c.state ≡ p = ap printer_in f ∙ ours_read p o in
     let k = h.0.2 in
     let s = same c a k in
-    let r = on_registers _ c.left (left-ours c a k h.0.1 (subst Ours (sym i) o)) s.2 l h.1 in
+    let r = on_registers (as_read c).left c.left (left-ours c a k h.0.1 (subst Ours (sym i) o)) s.2 l h.1 in
     record { calls = ((i, h.0.1, keeps-promise c a k), r.calls); same = (s, r.same) }
 
 -- from a start on, whatever the registers and the printer before

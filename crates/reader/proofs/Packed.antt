@@ -18,7 +18,7 @@ use Rattle.printer.proofs.Cuts.{call_steps}
 use Rattle.printer.proofs.KeepingSteps.{steps_ours}
 use Rattle.registers.specs.State.{Plain, registers_of, printer_in, accepted_in}
 use Rattle.registers.proofs.State.{registers-read, registers-accepted, plain}
-use Rattle.interpreter.specs.Calls.{run_in, left_in, output_in, ReadsRegisters}
+use Rattle.interpreter.specs.Calls.{run_in, left_in, ReadsRegisters}
 
 module _ (p : Printer) (h : Plain p) (input : List ℕ) (b : Bytes input) (allowance room : ℕ) where
   abbrev called : Run
