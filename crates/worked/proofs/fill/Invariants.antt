@@ -1,5 +1,5 @@
 -- The loop over the reads: what has come fits.
-use Rattle.std.proofs.Common.{◌-◌, ◌≤◌, ◌≡◌, length}
+use Rattle.std.proofs.Common.{◌-◌, ◌≤◌}
 use Rattle.worked.proofs.fill.Given as goal
 
 abbrev pub invariant-loop-done : goal.invariant-loop-done
