@@ -225,7 +225,8 @@ pub(crate) fn place_run(
     placed
 }
 
-// The same in image columns, where every byte prints. Columns of one byte are told apart, so that the loop counts no bytes of a column for them.
+// The same in image columns, where every byte prints. Columns of one byte are told apart, so that the loop counts no bytes of a column for them,
+// and those of three, so that it knows their number.
 pub(crate) fn place_columns(
     m: &mut [u32; COUNT],
     v: Record,
@@ -245,6 +246,9 @@ pub(crate) fn place_columns(
     let by = rounding::step(resolution_of(m[DOTS_ACROSS]), step);
     if bytes == 1 {
         return place_run(m, v, 0, step, first, by, 1, 1, most, input, out, allowance);
+    }
+    if bytes == 3 {
+        return place_run(m, v, 0, step, first, by, 3, k, most, input, out, allowance);
     }
     place_run(
         m, v, 0, step, first, by, bytes, k, most, input, out, allowance,
