@@ -5,7 +5,7 @@ ghost use Rattle.command_line.specs.Columns.{with_column, with_number, taken, af
 use crate::{Number, decimal, same_word};
 
 // What the words so far ask for.
-#[derive(Drop)]
+#[derive(Clone, Copy)]
 pub enum Words {
     Nothing,
     From(u16),
@@ -15,7 +15,7 @@ pub enum Words {
 }
 
 // What all the words ask for.
-#[derive(Drop)]
+#[derive(Clone, Copy)]
 pub enum Columns {
     Between(u16, u16),
     Help,

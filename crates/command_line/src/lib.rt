@@ -11,14 +11,14 @@ use printer::settings::StartSettings;
 use printer::starting::plain_start;
 
 // A word read as a number.
-#[derive(Drop)]
+#[derive(Clone, Copy)]
 pub enum Number {
     Value(u32),
     Unreadable,
 }
 
 // What the words so far ask for.
-#[derive(Drop)]
+#[derive(Clone, Copy)]
 pub enum Options {
     Run(StartSettings),
     // The number after --dots is the next word.
@@ -30,7 +30,7 @@ pub enum Options {
 }
 
 // What all the words ask for.
-#[derive(Drop)]
+#[derive(Clone, Copy)]
 pub enum Choice {
     Run(StartSettings),
     Help,

@@ -239,7 +239,7 @@ pub fn list_code(t: Tabs) -> u8
 }
 
 // The second byte, and the arguments after it as far as they were received.
-#[derive(Drop)]
+#[derive(Clone, Copy)]
 pub enum BegunBytes {
     Code(u8),
     Argument(u8, u8),

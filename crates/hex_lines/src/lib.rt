@@ -59,7 +59,7 @@ pub fn lines(records: &[u8], out: &mut [u8]) -> usize
 }
 
 // A line read back: whether it is a record's, and its bytes, or zeros if it is none.
-#[derive(Drop)]
+#[derive(Clone, Copy)]
 pub struct RecordLine {
     pub whole: bool,
     pub bytes: [u8; Record::SIZE],

@@ -38,7 +38,8 @@ pub(crate) fn line_to(
     write_feed(&*m, down, pages, out, at)
 }
 
-// LF: the line amount further down, or the top of a new page at the edge.
+// LF: the line amount further down, or the top of a new page at the edge. Each line of text has one, so it is put in place.
+#[inline(always)]
 pub(crate) fn line_feed(m: &mut [u32; COUNT], out: &mut [u8], at: usize) -> usize
     requires { at + record_size ≤ length out.old }
     ensures { Does (λ (p : Printer). inside Control.LineFeed (pages_of_line p) ∷ []) m.old m.new out.old at result out.new }

@@ -225,6 +225,32 @@ pub(crate) fn place_run(
     placed
 }
 
+// The same in columns of any number of bytes. No image has others than of one byte and of three, so that this is kept out of the way.
+#[cold]
+#[inline(never)]
+fn place_any(
+    m: &mut [u32; COUNT],
+    v: Record,
+    step: Units,
+    first: Exact,
+    by: Exact,
+    bytes: u8,
+    k: u8,
+    most: usize,
+    input: &[u8],
+    out: &mut [u8],
+    allowance: usize,
+) -> Placed
+    requires placeable { Placeable m.old v step.0 bytes k most (length input.now) allowance (length out.old) }
+    requires walks { Walks (get_or m.old dots_across_at 0) (get_or m.old across_at 0) step.0 first.0 by.0 }
+    ensures { Placing m.old v 0 step.0 bytes k most input.now out.old allowance result
+        m.new out.new }
+{
+    place_run(
+        m, v, 0, step, first, by, bytes, k, most, input, out, allowance,
+    )
+}
+
 // The same in image columns, where every byte prints. Columns of one byte are told apart, so that the loop counts no bytes of a column for them,
 // and those of three, so that it knows their number.
 pub(crate) fn place_columns(
@@ -250,7 +276,5 @@ pub(crate) fn place_columns(
     if bytes == 3 {
         return place_run(m, v, 0, step, first, by, 3, k, most, input, out, allowance);
     }
-    place_run(
-        m, v, 0, step, first, by, bytes, k, most, input, out, allowance,
-    )
+    place_any(m, v, step, first, by, bytes, k, most, input, out, allowance)
 }

@@ -18,7 +18,7 @@ const MOST: usize = 1024;
 
 // What is left after some input: the state, how many bytes were read, and whether writing failed. No contract of std says when writing
 // fails, so none here does: the flag is write_all's own answer.
-#[derive(Drop)]
+#[derive(Clone, Copy)]
 pub struct Progress {
     pub printer: Printer,
     pub read: usize,

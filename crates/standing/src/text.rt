@@ -10,7 +10,7 @@ const DIGITS: usize = 2 * Record::SIZE;
 
 // What has been read of a text: the number of the line begun, from 1, its first `count` bytes, what stands after the lines before it, and
 // whether it is no record's. After such a line nothing counts.
-#[derive(Drop)]
+#[derive(Clone, Copy)]
 pub struct Text {
     pub number: u64,
     pub line: [u8; DIGITS],

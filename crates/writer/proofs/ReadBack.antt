@@ -37,12 +37,14 @@ module _ (r : Resolution) (k : Kept) where
 
   -- Feeds
 
+  one-more : (x y a m n s : ℕ) → Goes x y a m (whole_feeds n) x (y + 5100 * n) a m → y + 5100 * suc n ≡ y + 5100 * n + 20 * s → y + 5100 * n + 20 * s < 39600
+      → Goes x y a m (whole_feeds n ++ feed s) x (y + 5100 * suc n) a m
+  one-more x y a m n s v e h = rw e (then (whole_feeds n) (feed s) v (feeds_down r k x (y + 5100 * n) a m s h))
+
   whole-feeds : (x y a m n : ℕ) → y + 5100 * n < 39600 → Goes x y a m (whole_feeds n) x (y + 5100 * n) a m
   unfolding whole_feeds
   whole-feeds x y a m zero h = let e : y + 5100 * 0 ≡ y = omega arith in rw e (nothing (standing r x y) (reckoning k a m y))
-  whole-feeds x y a m (suc n) h =
-      let e : y + 5100 * suc n ≡ y + 5100 * n + 20 * 255 = omega arith in
-      rw e (then (whole_feeds n) _ (whole-feeds x y a m n (omega arith)) (feeds_down r k x (y + 5100 * n) a m _ (omega arith)))
+  whole-feeds x y a m (suc n) h = one-more x y a m n _ (whole-feeds x y a m n (omega arith)) (omega arith) (omega arith)
 
   rest-feed : (x y a m n : ℕ) → y + 20 * n < 39600 → Goes x y a m (pick (eqb n 0) [] (feed n)) x (y + 20 * n) a m
   rest-feed x y a m n h = go (eqb n 0) refl
@@ -73,14 +75,15 @@ module _ (r : Resolution) (k : Kept) where
           rw (f, g) (nothing (standing r x y) (reckoning k a 0 y))
       go false e = moves_across r k x y a 0 n b h
 
-  to-place : (x y a m z : ℕ) → z % 20 ≡ 0 → z ≤ 28800 → Goes x y a m (place_bytes z) z y (60 * (z / 60)) (z % 60)
-  to-place x y a m z e h =
-      let n = z % 60 / 20 in
-      let f : 60 * (z / 60) + 20 * n ≡ z = omega arith in
-      let g : 0 + 20 * n ≡ z % 60 = omega arith in
+  sixtieths-and-rest : (x y a m z n : ℕ) → z ≤ 28800 → n < 0x8000 → 60 * (z / 60) + 20 * n ≡ z → 0 + 20 * n ≡ z % 60
+      → Goes x y a m (move_bytes 0x24 (z / 60) ++ pick (eqb n 0) [] (move_bytes 0x5C n)) z y (60 * (z / 60)) (z % 60)
+  sixtieths-and-rest x y a m z n h b f g =
       let v = then (move_bytes 0x24 (z / 60)) (pick (eqb n 0) [] (move_bytes 0x5C n)) (sets_across r k x y a m (z / 60) (omega arith))
-      (rest-move (60 * (z / 60)) y (60 * (z / 60)) n (omega arith) (omega arith)) in
+      (rest-move (60 * (z / 60)) y (60 * (z / 60)) n b (omega (arith, f))) in
       rw (f, g) at v
+
+  to-place : (x y a m z : ℕ) → z % 20 ≡ 0 → z ≤ 28800 → Goes x y a m (place_bytes z) z y (60 * (z / 60)) (z % 60)
+  to-place x y a m z e h = sixtieths-and-rest x y a m z _ h (omega arith) (omega arith) (omega arith)
 
   -- A letter
 
