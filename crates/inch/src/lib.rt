@@ -8,6 +8,7 @@ ghost use Rattle.inch.specs.Table.{rows};
 
 // The table: the dot numbers of the 3,600 units of an inch, a byte each; row k has those of the units 8k to 8k + 7. (A constant array would be built
 // anew on the stack at each use. This is compiled to a constant of 3,600 bytes and a load.)
+#[tactic(auto, using(crate::proofs::Entry::entry))]
 fn row(k: u32) -> [u8; 8]
     requires { k < 450 }
     ensures { result ≡ get_or rows k [] }
