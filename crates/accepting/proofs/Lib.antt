@@ -1,4 +1,3 @@
 pub mod Again
-pub mod Tested
 pub mod StopLists
 pub mod ChannelTests

@@ -2,13 +2,17 @@
 -- lengths and the stops are so whatever they are.
 use Rattle.std.specs.Prelude.{ℕ, ◌*◌, ◌%◌, Bool, ◌&&◌, List, eqb, get_or}
 use Rattle.printer.specs.Units.{per_inch_across, per_inch_down}
+use Rattle.printer.specs.Bounds.{settings_bounds, place_bounds, column_bounds, channel_bounds, waiting_bounds}
 use Rattle.printer.specs.Records.{style_of}
+use Rattle.printer.specs.Tools.{holds}
 use Rattle.printer.specs.Widths.{advance, column_width}
+use Rattle.printer.specs.declared.commands.Waiting.{Waiting}
 use Rattle.measures.specs.Exact.{packed}
 use Rattle.registers.specs.declared.pending.Pending.{Pending}
 use Rattle.registers.specs.Register.{kind_at, command_at, argument_at, image_mode_at, image_byte_at, image_columns_at, dots_across_at, dots_down_at, auto_feed_at, pitch_at, spacing_at, wide_at, wide_once_at, reduced_at, proportional_at, bold_at, double_strike_at, italic_at, underline_at, superscript_at, subscript_at, font_at, country_at, outline_at, double_height_at, italic_table_at, download_at, draft_at, upper_prints_at, style_at, advance_at, column_width_at, advance_dots_at}
 use Rattle.registers.specs.Layout.{flag, pitch_number}
-use Rattle.registers.specs.Groups.{is_set, resolution_of, pitch_of, width_in, settings_in}
+use Rattle.registers.specs.Groups.{is_set, resolution_of, pitch_of, place_in, width_in, settings_in, channels_in, stops_in}
+use Rattle.registers.specs.State.{pending_of}
 
 abbrev pub is_flag : ℕ → Bool
 is_flag n = eqb n (flag (is_set n))
@@ -58,3 +62,9 @@ same_derived m =
 unfoldable pub same_registers : List ℕ → Pending → Bool
 same_registers m v =
     same_pending m v && (same_setup m && (same_width m && (same_emphasis m && (same_face m && (same_printing m && same_derived m)))))
+
+-- the registers are those of the printer that they are read as, but that it waits for w, and its groups and w are within their bounds
+unfoldable pub accepts : List ℕ → Waiting → Bool
+accepts m w =
+    same_registers m (pending_of w) && (holds (settings_bounds (settings_in m)) && (holds (place_bounds (settings_in m) (place_in m)) &&
+    (holds (column_bounds (stops_in m)) && (holds (channel_bounds (channels_in m)) && holds (waiting_bounds (settings_in m) (stops_in m) w)))))

@@ -1,15 +1,7 @@
 // Lists of tab stops where they stand: their order, and the last of them.
-ghost use Rattle.std.specs.Prelude.{◌≡◌, min, take};
+ghost use Rattle.std.specs.Prelude.{◌≡◌, take};
 ghost use Rattle.printer.specs.Bounds.{list_bounds, last_of};
 ghost use Rattle.printer.specs.Tools.{holds};
-
-// How many stops are held: the count, or as many as there is room for.
-fn held(count: u32, room: usize) -> usize
-    ensures { result ≡ min count room }
-{
-    let n = count as usize;
-    if n < room { n } else { room }
-}
 
 // Whether at most so many stops are held, and ascend strictly from 1 to a limit.
 pub(crate) fn ascend(stops: &[u32], count: u32, most: u32, limit: u32) -> bool
@@ -18,16 +10,13 @@ pub(crate) fn ascend(stops: &[u32], count: u32, most: u32, limit: u32) -> bool
     if most < count {
         return false;
     }
-    let end = held(count, stops.len());
-    let mut last: u32 = 0;
-    let mut i: usize = 0;
-    while i < end {
-        let stop = stops[i];
+    let end = (count as usize).min(stops.len());
+    let mut last = 0;
+    for &stop in &stops[..end] {
         if stop <= last {
             return false;
         }
         last = stop;
-        i += 1;
     }
     last <= limit
 }
@@ -36,9 +25,6 @@ pub(crate) fn ascend(stops: &[u32], count: u32, most: u32, limit: u32) -> bool
 pub(crate) fn last(stops: &[u32], count: u32) -> u32
     ensures { result ≡ last_of 0 (take count stops.now) }
 {
-    let end = held(count, stops.len());
-    if end == 0 {
-        return 0;
-    }
-    stops[end - 1]
+    let end = (count as usize).min(stops.len());
+    stops[..end].last().copied().unwrap_or(0)
 }

@@ -1,94 +1,79 @@
 // The words of `under`, taken one by one: two columns, or --help. After --help, or a word that is neither, no other counts.
-ghost use Rattle.std.specs.Prelude.{◌≡◌};
+ghost use Rattle.std.specs.Prelude.{◌≡◌, Some};
 ghost use Rattle.command_line.specs.Columns.{with_column, with_number, taken, after_word, columns_of};
 
-use crate::{Number, decimal, same_word};
+use crate::{BadUsage, CommandLine, decimal};
 
 // What the words so far ask for.
-#[derive(Clone, Copy)]
+#[derive(Clone, Copy, Debug, PartialEq, Eq)]
 pub enum Words {
     Nothing,
     From(u16),
     Between(u16, u16),
     Help,
-    Bad,
 }
 
 // What all the words ask for.
-#[derive(Clone, Copy)]
+#[derive(Clone, Copy, Debug, PartialEq, Eq)]
 pub enum Columns {
     Between(u16, u16),
     Help,
-    Bad,
 }
 
-fn with_column(words: Words, n: u16) -> Words
+fn with_column(words: Words, n: u16) -> Result<Words, BadUsage>
     ensures { result ≡ with_column words n }
 {
     match words {
-        Words::Nothing => Words::From(n),
-        Words::From(from) => Words::Between(from, n),
-        Words::Between(_, _) => Words::Bad,
-        Words::Help => Words::Help,
-        Words::Bad => Words::Bad,
+        Words::Nothing => Ok(Words::From(n)),
+        Words::From(from) => Ok(Words::Between(from, n)),
+        Words::Between(_, _) => Err(BadUsage),
+        Words::Help => Ok(Words::Help),
     }
 }
 
-fn with_number(words: Words, n: Number) -> Words
-    ensures { result ≡ with_number words n }
+fn with_number(words: Words, n: u32) -> Result<Words, BadUsage>
+    ensures { result ≡ with_number words (Some n) }
 {
-    match n {
-        Number::Value(column) => {
-            if column <= 65535 {
-                with_column(words, column as u16)
-            } else {
-                Words::Bad
-            }
-        }
-        Number::Unreadable => Words::Bad,
-    }
+    with_column(words, u16::try_from(n).map_err(|_| BadUsage)?)
 }
 
-fn taken(words: Words, word: &[u8]) -> Words
+#[tactic(auto, unfolding(crate::specs::Columns::taken))]
+fn taken(words: Words, word: &[u8]) -> Result<Words, BadUsage>
     ensures { result ≡ taken words word.now }
 {
-    if same_word(word, b"--help") {
-        return Words::Help;
+    if word == b"--help".as_slice() {
+        return Ok(Words::Help);
     }
-    with_number(words, decimal(word))
+    with_number(words, decimal(word).ok_or(BadUsage)?)
 }
 
-impl Words {
-    // Before any word.
-    pub fn new() -> Words
-        ensures { result ≡ Words.Nothing }
-    {
+impl CommandLine for Words {
+    ghost use Rattle.command_line.specs.declared.columns.Words.{Words};
+
+    type Choice = Columns;
+
+    ghost no_words = { Words.Nothing };
+
+    ghost after_word = { after_word };
+
+    ghost choice_of = { columns_of };
+
+    fn new() -> Words {
         Words::Nothing
     }
 
-    // After one more word.
-    pub fn word(self, word: &[u8]) -> Words
-        ensures { result ≡ after_word self word.now }
-    {
+    fn word(self, word: &[u8]) -> Result<Words, BadUsage> {
         match self {
-            Words::Nothing => taken(self, word),
-            Words::From(_) => taken(self, word),
-            Words::Between(_, _) => taken(self, word),
-            Words::Help => Words::Help,
-            Words::Bad => Words::Bad,
+            Words::Help => Ok(Words::Help),
+            _ => taken(self, word),
         }
     }
 
-    // After the last word.
-    pub fn columns(self) -> Columns
-        ensures { result ≡ columns_of self }
-    {
+    fn choice(self) -> Result<Columns, BadUsage> {
         match self {
-            Words::Nothing => Columns::Bad,
-            Words::From(_) => Columns::Bad,
-            Words::Between(from, to) => Columns::Between(from, to),
-            Words::Help => Columns::Help,
-            Words::Bad => Columns::Bad,
+            Words::Nothing | Words::From(_) => Err(BadUsage),
+            Words::Between(from, to) => Ok(Columns::Between(from, to)),
+            Words::Help => Ok(Columns::Help),
         }
     }
 }

@@ -4,17 +4,62 @@
 
 pub mod columns;
 
-ghost use Rattle.std.specs.Prelude.{◌≡◌};
-ghost use Rattle.command_line.specs.CommandLine.{is_digit, decimal_of, same, no_words, with_dots, with_feed, with_width, after_option, after_dots, after_width, after_word, choice_of};
+ghost use Rattle.std.specs.Prelude.{◌≡◌, List, ℕ, Result};
+ghost use Rattle.command_line.specs.declared.BadUsage.{BadUsage};
+ghost use Rattle.command_line.specs.CommandLine.{asked_by, decimal_of, no_words, after_option, after_dots, after_width, after_word, choice_of};
 
 use printer::settings::StartSettings;
 use printer::starting::plain_start;
+use std::env::{Env, FillError};
 
-// A word read as a number.
-#[derive(Clone, Copy)]
-pub enum Number {
-    Value(u32),
-    Unreadable,
+// Words that the program does not take, or too few of them.
+#[derive(Clone, Copy, Debug, PartialEq, Eq)]
+pub struct BadUsage;
+
+// The words of a command line, taken one by one: what those so far ask for.
+pub trait CommandLine: Drop + Sized {
+    // What all the words ask for.
+    type Choice: Drop;
+
+    ghost no_words: { Self };
+
+    ghost after_word: { Self → List ℕ → Result Self BadUsage };
+
+    ghost choice_of: { Self → Result Self.Choice BadUsage };
+
+    // Before any word.
+    fn new() -> Self
+        ensures { result ≡ no_words };
+
+    // After one more word.
+    fn word(self, word: &[u8]) -> Result<Self, BadUsage>
+        ensures { result ≡ after_word self word.now };
+
+    // After the last word.
+    fn choice(self) -> Result<Self::Choice, BadUsage>
+        ensures { result ≡ choice_of self };
+}
+
+// The most bytes of a word: a longer one is none that is known.
+const WORD: usize = 4096;
+
+// What the words of the command line ask for. That they are those of the command line is left to these lines, as no contract of std says
+// which it has.
+pub fn asked<T: CommandLine>(rt: &HostRuntime) -> Result<T::Choice, BadUsage>
+    ensures { (words : List (List ℕ)) × (result ≡ asked_by T.after_word T.choice_of T.no_words words) }
+{
+    let mut asked = T::new();
+    let mut word = [0u8; WORD];
+    for i in 1..usize::MAX {
+        let n = match rt.arg(i, &mut word) {
+            Ok(n) => n,
+            // as an empty word, which is none that is known
+            Err(FillError::TooLong) => 0,
+            Err(FillError::NotPresent) => break,
+        };
+        asked = asked.word(&word[..n])?;
+    }
+    asked.choice()
 }
 
 // What the words so far ask for.
@@ -26,7 +71,6 @@ pub enum Options {
     // The number after --width is the next word.
     WantsWidth(StartSettings),
     Help,
-    Bad,
 }
 
 // What all the words ask for.
@@ -34,152 +78,91 @@ pub enum Options {
 pub enum Choice {
     Run(StartSettings),
     Help,
-    Bad,
-}
-
-fn is_digit(b: u8) -> bool
-    ensures { result ≡ is_digit b }
-{
-    (b'0' <= b) & (b <= b'9')
 }
 
 // The most digits of a number: any such fits 32 bits.
 const MOST_DIGITS: usize = 9;
 
-fn wide(b: u8) -> u32
-    ensures { result ≡ b }
-{
-    b as u32
-}
-
-fn decimal(word: &[u8]) -> Number
+fn decimal(word: &[u8]) -> Option<u32>
     ensures { result ≡ decimal_of word.now }
 {
-    if word.len() == 0 {
-        return Number::Unreadable;
+    if word.is_empty() || word.len() > MOST_DIGITS {
+        return None;
     }
-    if MOST_DIGITS < word.len() {
-        return Number::Unreadable;
-    }
-    let mut value: u32 = 0;
-    let mut i = 0;
-    while i < word.len() {
-        let b = word[i];
-        if !is_digit(b) {
-            return Number::Unreadable;
+    let mut value = 0;
+    for &digit in word {
+        if !digit.is_ascii_digit() {
+            return None;
         }
-        value = 10 * value + wide(b - b'0');
-        i += 1;
+        value = 10 * value + u32::from(digit - b'0');
     }
-    Number::Value(value)
+    Some(value)
 }
 
-fn same_word(a: &[u8], b: &[u8]) -> bool
-    ensures { result ≡ same a.now b.now }
-{
-    check::same(a, b)
-}
-
-// The settings with other dots an inch.
-fn with_dots(s: StartSettings, dots: u32) -> StartSettings
-    ensures { result ≡ with_dots s dots }
-{
-    StartSettings {
-        resolution: dots,
-        autofeed: s.autofeed,
-        width: s.width,
-    }
-}
-
-// The settings with automatic line feed.
-fn with_feed(s: StartSettings) -> StartSettings
-    ensures { result ≡ with_feed s }
-{
-    StartSettings {
-        resolution: s.resolution,
-        autofeed: true,
-        width: s.width,
-    }
-}
-
-// The settings with another width of the paper.
-fn with_width(s: StartSettings, width: u32) -> StartSettings
-    ensures { result ≡ with_width s width }
-{
-    StartSettings {
-        resolution: s.resolution,
-        autofeed: s.autofeed,
-        width,
-    }
-}
-
-fn after_option(s: StartSettings, word: &[u8]) -> Options
+#[tactic(auto, unfolding(crate::specs::CommandLine::after_option))]
+fn after_option(s: StartSettings, word: &[u8]) -> Result<Options, BadUsage>
     ensures { result ≡ after_option s word.now }
 {
-    if same_word(word, b"--dots") {
-        return Options::WantsDots(s);
+    if word == b"--dots".as_slice() {
+        return Ok(Options::WantsDots(s));
     }
-    if same_word(word, b"--width") {
-        return Options::WantsWidth(s);
+    if word == b"--width".as_slice() {
+        return Ok(Options::WantsWidth(s));
     }
-    if same_word(word, b"--auto-feed") {
-        return Options::Run(with_feed(s));
+    if word == b"--auto-feed".as_slice() {
+        return Ok(Options::Run(StartSettings {
+            autofeed: true,
+            ..s
+        }));
     }
-    if same_word(word, b"--help") {
-        return Options::Help;
+    if word == b"--help".as_slice() {
+        return Ok(Options::Help);
     }
-    Options::Bad
+    Err(BadUsage)
 }
 
-fn after_dots(s: StartSettings, n: Number) -> Options
-    ensures { result ≡ after_dots s n }
+fn after_dots(s: StartSettings, word: &[u8]) -> Result<Options, BadUsage>
+    ensures { result ≡ after_dots s (decimal_of word.now) }
 {
-    match n {
-        Number::Value(dots) => Options::Run(with_dots(s, dots)),
-        Number::Unreadable => Options::Bad,
-    }
+    let resolution = decimal(word).ok_or(BadUsage)?;
+    Ok(Options::Run(StartSettings { resolution, ..s }))
 }
 
-fn after_width(s: StartSettings, n: Number) -> Options
-    ensures { result ≡ after_width s n }
+fn after_width(s: StartSettings, word: &[u8]) -> Result<Options, BadUsage>
+    ensures { result ≡ after_width s (decimal_of word.now) }
 {
-    match n {
-        Number::Value(width) => Options::Run(with_width(s, width)),
-        Number::Unreadable => Options::Bad,
-    }
+    let width = decimal(word).ok_or(BadUsage)?;
+    Ok(Options::Run(StartSettings { width, ..s }))
 }
 
-impl Options {
-    // Before any word: 300 dots, automatic line feed off, the widest paper.
-    pub fn new() -> Options
-        ensures { result ≡ no_words }
-    {
+impl CommandLine for Options {
+    type Choice = Choice;
+
+    ghost no_words = { no_words };
+
+    ghost after_word = { after_word };
+
+    ghost choice_of = { choice_of };
+
+    // 300 dots, automatic line feed off, the widest paper.
+    fn new() -> Options {
         Options::Run(plain_start())
     }
 
-    // After one more word.
-    pub fn word(self, word: &[u8]) -> Options
-        ensures { result ≡ after_word self word.now }
-    {
+    fn word(self, word: &[u8]) -> Result<Options, BadUsage> {
         match self {
             Options::Run(s) => after_option(s, word),
-            Options::WantsDots(s) => after_dots(s, decimal(word)),
-            Options::WantsWidth(s) => after_width(s, decimal(word)),
-            Options::Help => Options::Help,
-            Options::Bad => Options::Bad,
+            Options::WantsDots(s) => after_dots(s, word),
+            Options::WantsWidth(s) => after_width(s, word),
+            Options::Help => Ok(Options::Help),
         }
     }
 
-    // After the last word.
-    pub fn choice(self) -> Choice
-        ensures { result ≡ choice_of self }
-    {
+    fn choice(self) -> Result<Choice, BadUsage> {
         match self {
-            Options::Run(s) => Choice::Run(s),
-            Options::WantsDots(_) => Choice::Bad,
-            Options::WantsWidth(_) => Choice::Bad,
-            Options::Help => Choice::Help,
-            Options::Bad => Choice::Bad,
+            Options::Run(s) => Ok(Choice::Run(s)),
+            Options::WantsDots(_) | Options::WantsWidth(_) => Err(BadUsage),
+            Options::Help => Ok(Choice::Help),
         }
     }
 }

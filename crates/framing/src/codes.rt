@@ -7,12 +7,13 @@ ghost use Rattle.printer.specs.Framing.{first_of, second_of, selected_of};
 ghost use Rattle.framing.specs.Codes.{bytes_of};
 
 use printer::commands::{
-    Begun, Choice, Control, Density, First, ImageMode, Mode, Move, One, Parameter, Second,
-    Selected, Side, Switch, Tabs, Two,
+    Begun, Choice, Control, Density, First, ImageMode, Mode, Move, One, Parameter, Second, Side,
+    Switch, Tabs, Two,
 };
 use printer::settings::Pitch;
 
 // What a control byte is.
+#[tactic(auto, unfolding(printer::specs::Tools::lookup, printer::specs::Tools::coded, printer::specs::Framing::controls, printer::specs::Codes::firsts))]
 pub(crate) fn first_of(b: u8) -> First
     ensures { result ≡ first_of b }
 {
@@ -33,6 +34,7 @@ pub(crate) fn first_of(b: u8) -> First
 }
 
 // What an escape's second byte is. The table is in three functions for its length: first the escapes without an argument.
+#[tactic(auto, unfolding(printer::specs::Tools::lookup, printer::specs::Tools::coded, printer::specs::Framing::escapes, printer::specs::Codes::seconds, printer::specs::Codes::plain_escapes, printer::specs::Escapes::modes, printer::specs::Escapes::looks))]
 pub fn second_of(b: u8) -> Second
     ensures { result ≡ second_of b }
 {
@@ -59,6 +61,7 @@ pub fn second_of(b: u8) -> Second
 }
 
 // The rest of the table: the escapes that have arguments or a list, and ESC @. First those with one argument that change a setting.
+#[tactic(auto, unfolding(printer::specs::Tools::lookup, printer::specs::Tools::coded, printer::specs::Codes::argument_escapes, printer::specs::Escapes::parameters, printer::specs::Escapes::choices))]
 pub fn begun_of(b: u8) -> Second
     ensures { result ≡ lookup (coded second_code (argument_escapes ++ other_escapes)) Second.Unlisted b }
 {
@@ -84,6 +87,7 @@ pub fn begun_of(b: u8) -> Second
 }
 
 // The others.
+#[tactic(auto, unfolding(printer::specs::Tools::lookup, printer::specs::Tools::coded, printer::specs::Codes::other_escapes))]
 fn other_second(b: u8) -> Second
     ensures { result ≡ lookup (coded second_code other_escapes) Second.Unlisted b }
 {
@@ -111,80 +115,42 @@ fn other_second(b: u8) -> Second
 }
 
 // The mode that a byte of ESC * selects.
-pub fn selected_of(b: u8) -> Selected
+#[tactic(auto, unfolding(printer::specs::Tools::lookup, printer::specs::Tools::coded, printer::specs::Framing::selections, printer::specs::Codes::image_modes))]
+pub fn selected_of(b: u8) -> Option<ImageMode>
     ensures { result ≡ selected_of b }
 {
     match b {
-        0 => Selected::Mode(ImageMode::Single),
-        1 => Selected::Mode(ImageMode::Double),
-        2 => Selected::Mode(ImageMode::DoubleSpeed),
-        3 => Selected::Mode(ImageMode::Quadruple),
-        4 => Selected::Mode(ImageMode::Crt80),
-        6 => Selected::Mode(ImageMode::Crt90),
-        32 => Selected::Mode(ImageMode::Single24),
-        33 => Selected::Mode(ImageMode::Double24),
-        38 => Selected::Mode(ImageMode::Crt24),
-        39 => Selected::Mode(ImageMode::Triple24),
-        40 => Selected::Mode(ImageMode::Hex24),
-        _ => Selected::Unlisted,
+        0 => Some(ImageMode::Single),
+        1 => Some(ImageMode::Double),
+        2 => Some(ImageMode::DoubleSpeed),
+        3 => Some(ImageMode::Quadruple),
+        4 => Some(ImageMode::Crt80),
+        6 => Some(ImageMode::Crt90),
+        32 => Some(ImageMode::Single24),
+        33 => Some(ImageMode::Double24),
+        38 => Some(ImageMode::Crt24),
+        39 => Some(ImageMode::Triple24),
+        40 => Some(ImageMode::Hex24),
+        _ => None,
     }
 }
 
 pub fn image_mode_number(m: ImageMode) -> u8
     ensures { result ≡ image_mode_number m }
 {
-    match m {
-        ImageMode::Single => 0,
-        ImageMode::Double => 1,
-        ImageMode::DoubleSpeed => 2,
-        ImageMode::Quadruple => 3,
-        ImageMode::Crt80 => 4,
-        ImageMode::Crt90 => 6,
-        ImageMode::Single24 => 32,
-        ImageMode::Double24 => 33,
-        ImageMode::Crt24 => 38,
-        ImageMode::Triple24 => 39,
-        ImageMode::Hex24 => 40,
-    }
+    m as u8
 }
 
 pub fn parameter_code(c: Parameter) -> u8
     ensures { result ≡ (parameter_row c).code }
 {
-    match c {
-        Parameter::Line180ths => b'3',
-        Parameter::Line60ths => b'A',
-        Parameter::Line360ths => b'+',
-        Parameter::Spacing => b' ',
-        Parameter::Proportional => b'p',
-        Parameter::Quality => b'x',
-        Parameter::DoubleWidth => b'W',
-        Parameter::Master => b'!',
-    }
+    c as u8
 }
 
 pub fn choice_code(c: Choice) -> u8
     ensures { result ≡ (choice_row c).code }
 {
-    match c {
-        Choice::Script => b'S',
-        Choice::Underline => b'-',
-        Choice::DoubleHeight => b'w',
-        Choice::Outline => b'q',
-        Choice::CodeTable => b't',
-        Choice::Font => b'k',
-        Choice::Country => b'R',
-        Choice::Download => b'%',
-    }
-}
-
-fn margin_code(side: Side) -> u8
-    ensures { result ≡ one_code (One.Margin side) }
-{
-    match side {
-        Side::Left => b'l',
-        Side::Right => b'Q',
-    }
+    c as u8
 }
 
 fn one_code(c: One) -> u8
@@ -195,28 +161,8 @@ fn one_code(c: One) -> u8
         One::Choice(k) => choice_code(k),
         One::Skip => b'N',
         One::Feed => b'J',
-        One::Margin(side) => margin_code(side),
+        One::Margin(side) => side as u8,
         One::Channel => b'/',
-    }
-}
-
-fn move_code(m: Move) -> u8
-    ensures { result ≡ two_code (Two.Move m) }
-{
-    match m {
-        Move::Absolute => b'$',
-        Move::Relative => b'\\',
-    }
-}
-
-fn image_code(d: Density) -> u8
-    ensures { result ≡ two_code (Two.Image d) }
-{
-    match d {
-        Density::Single => b'K',
-        Density::Double => b'L',
-        Density::DoubleSpeed => b'Y',
-        Density::Quadruple => b'Z',
     }
 }
 
@@ -224,18 +170,15 @@ fn two_code(c: Two) -> u8
     ensures { result ≡ two_code c }
 {
     match c {
-        Two::Move(m) => move_code(m),
-        Two::Image(d) => image_code(d),
+        Two::Move(m) => m as u8,
+        Two::Image(d) => d as u8,
     }
 }
 
 pub fn list_code(t: Tabs) -> u8
     ensures { result ≡ second_code (Second.List t) }
 {
-    match t {
-        Tabs::Horizontal => b'D',
-        Tabs::Vertical => b'B',
-    }
+    t as u8
 }
 
 // The second byte, and the arguments after it as far as they were received.

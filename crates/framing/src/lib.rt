@@ -26,19 +26,14 @@ pub fn prints(from: u8, b: u8) -> bool
 }
 
 // After ESC 7, 80h to 9Fh is read less 80h.
+#[tactic(auto, unfolding(printer::specs::Framing::read_as))]
 fn read_as(upper: bool, b: u8) -> u8
     ensures { result ≡ read_as upper b }
 {
-    if upper {
-        return b;
+    match b {
+        0x80..=0x9F if !upper => b - 0x80,
+        _ => b,
     }
-    if b <= 0x7F {
-        return b;
-    }
-    if 0x9F < b {
-        return b;
-    }
-    b - 0x80
 }
 
 // What a byte is that is no letter, between commands.

@@ -1,22 +1,24 @@
 -- A line read back: the loop over its pairs of digits; and the line of a record gives the record.
 use Prim.Native.Nat.{ℕ, suc, ◌+◌, ◌-◌, ◌*◌, ◌/◌, ◌%◌, ◌≤◌, ◌<◌}
 use mathlib.Core.Path.{◌≡◌, refl, ap, ◌∙◌}
-use mathlib.Core.Bool.{Bool, true, false}
+use mathlib.Core.Bool.{true, false}
 use mathlib.Core.List.{List, [], ◌∷◌, ◌++◌, append_assoc, append-nil}
 use native.Mathlib.Numerals.{add-one}
 use native.Mathlib.Omega.{arith}
-use borrow.Author.Tests.{ltb-true, ltb-false, lt-ltb, le-ltb, le-leb, lt-leb, eq-eqb, ne_eqb}
+use borrow.Author.Tests.{ltb-true, ltb-false, lt-ltb, le-leb, lt-leb, eq-eqb, ne_eqb}
 use lib.Dec.{ltb}
+use Rattle.std.specs.Prelude.{Option, Some, None}
 use lib.ListN.{length, take, drop, get_or, set, length-set, drop_of_length-le}
 use lib.Seq.{drop-cons, take-suc-set, take_all}
-use Rattle.printer.specs.Tools.{both, either, Bytes}
+use Rattle.printer.specs.Tools.{Bytes}
 use Rattle.printer.specs.Records.{record_size}
-use Rattle.printer.proofs.Choices.{pick_elim, either_elim, either_left, either-right}
+use Rattle.printer.proofs.Choices.{pick_elim}
+use Rattle.printer.proofs.Frames.{clash}
 use Rattle.hex_lines.specs.HexLines.{hex_digit, hex_digits}
-use Rattle.hex_lines.specs.RecordLine.{digit_value, is_digit, all_digits, byte_of, bytes_of, digit_count, a_record, no_record, record_of}
+use Rattle.hex_lines.specs.RecordLine.{digit_value, is_digit, all_digits, byte_of, bytes_of, digit_count, digit_of, record_of}
 use Rattle.hex_lines.proofs.LineLaws.{digits_length}
 
-pub another_length : (line : List ℕ) → (length line ≡ digit_count → ⊥) → no_record ≡ record_of line
+pub another_length : (line : List ℕ) → (length line ≡ digit_count → ⊥) → None ≡ record_of line
 unfolding record_of
 another_length line h = rw (ne_eqb (length line) digit_count h)
 
@@ -43,23 +45,19 @@ pair-at line i h =
     let e : 2 * (i + 1) ≡ suc (2 * i + 1) = omega arith in
     rw (drop-cons line (2 * i) 0 (omega arith), ← add-one (2 * i), drop-cons line (2 * i + 1) 0 h, e)
 
--- a value above 15 is no digit's
-a_digit : (b v : ℕ) → v ≡ digit_value b → ltb 15 v ≡ false → is_digit b ≡ true
-a_digit b v e t = let h = ltb-false 15 v t in lt-ltb (digit_value b) 16 (omega arith)
+-- the value found of a digit, or that there is none
+a_digit : (b v : ℕ) → Some v ≡ digit_of b → (v ≡ digit_value b) × (is_digit b ≡ true)
+a_digit b v =
+    pick_elim (λ (d : Option ℕ). Some v ≡ d → (v ≡ digit_value b) × (is_digit b ≡ true)) (is_digit b)
+    (λ t e. (cc, t))
+    (λ _ e. absurd (clash cc))
 
-no_digit : (b v : ℕ) → v ≡ digit_value b → ltb 15 v ≡ true → is_digit b ≡ false
-no_digit b v e t = let h = ltb-true 15 v t in le-ltb (digit_value b) 16 (omega arith)
-
-no-low : (t u : Bool) → both t (both false u) ≡ false
-no-low true u = refl
-no-low false u = refl
-
--- two values of digits: their byte fits
-pub fits : (x y : ℕ) → either (ltb 15 x) (ltb 15 y) ≡ false → (x ≤ 15) × (y ≤ 15)
-fits x y t = (ltb-false 15 x (either_left (ltb 15 x) (ltb 15 y) t), ltb-false 15 y (either-right (ltb 15 x) (ltb 15 y) t))
+no_digit : (b : ℕ) → None ≡ digit_of b → is_digit b ≡ false
+no_digit b =
+    pick_elim (λ (d : Option ℕ). None ≡ d → is_digit b ≡ false) (is_digit b) (λ _ e. absurd (clash cc)) (λ t _. t)
 
 module _ {line bytes : List ℕ} {i : ℕ} (v : PairsLeft line bytes i) where
-  pub ends : record_size ≤ i → a_record bytes ≡ record_of line
+  pub ends : record_size ≤ i → Some bytes ≡ record_of line
   unfolding record_of all_digits bytes_of
   ends h =
       let e : drop (2 * i) line ≡ [] = drop_of_length-le line {i = 2 * i} (omega (arith, v.size)) in
@@ -71,28 +69,30 @@ module _ {line bytes : List ℕ} {i : ℕ} (v : PairsLeft line bytes i) where
     pair : drop (2 * i) line ≡ high line i ∷ low line i ∷ drop (2 * (i + 1)) line
     pair = pair-at line i (omega (arith, v.size))
 
-    -- the values found of the pair
-    module _ {x y : ℕ} (e : x ≡ digit_value (high line i)) (f : y ≡ digit_value (low line i)) where
-      pub stops : either (ltb 15 x) (ltb 15 y) ≡ true → no_record ≡ record_of line
-      unfolding record_of all_digits
-      stops t =
-          let d : all_digits line ≡ false =
-          either_elim (all_digits line ≡ false) (ltb 15 x) (ltb 15 y) t
-          (λ g. v.digits ∙ ap all_digits pair ∙ rw (no_digit (high line i) x e g))
-          (λ g. v.digits ∙ ap all_digits pair ∙ rw (no_digit (low line i) y f g) (no-low (is_digit (high line i)) (all_digits (drop (2 * (i + 1)) line)))) in
-          rw (eq-eqb (length line) digit_count v.size, d)
+    refused : all_digits line ≡ false → None ≡ record_of line
+    unfolding record_of
+    refused d = rw (eq-eqb (length line) digit_count v.size, d)
 
-      pub goes_on : either (ltb 15 x) (ltb 15 y) ≡ false → PairsLeft line (set bytes i (16 * x + y)) (i + 1)
+    pub stops_high : None ≡ digit_of (high line i) → None ≡ record_of line
+    unfolding all_digits
+    stops_high e = refused (v.digits ∙ ap all_digits pair ∙ rw (no_digit (high line i) e))
+
+    module _ {x : ℕ} (e : Some x ≡ digit_of (high line i)) where
+      pub stops_low : None ≡ digit_of (low line i) → None ≡ record_of line
+      unfolding all_digits
+      stops_low f = refused (v.digits ∙ ap all_digits pair ∙ rw ((a_digit (high line i) x e).1, no_digit (low line i) f))
+
+      pub goes_on : (y : ℕ) → Some y ≡ digit_of (low line i) → PairsLeft line (set bytes i (16 * x + y)) (i + 1)
       unfolding all_digits bytes_of
-      goes_on t =
-          let p = a_digit (high line i) x e (either_left (ltb 15 x) (ltb 15 y) t) in
-          let q = a_digit (low line i) y f (either-right (ltb 15 x) (ltb 15 y) t) in
+      goes_on y f =
+          let p = a_digit (high line i) x e in
+          let q = a_digit (low line i) y f in
           record {
             size = v.size;
             room = simp length-set v.room;
             passed = omega arith;
-            digits = v.digits ∙ ap all_digits pair ∙ rw (p, q);
-            same = v.same ∙ rw (pair, e, f, add-one i, take-suc-set bytes i (byte_of (high line i) (low line i)) (omega (arith, v.room)), append_assoc);
+            digits = v.digits ∙ ap all_digits pair ∙ rw (p.1, q.1);
+            same = v.same ∙ rw (pair, p.0, q.0, add-one i, take-suc-set bytes i (byte_of (high line i) (low line i)) (omega (arith, v.room)), append_assoc);
           }
 
 -- The line of a record
@@ -116,7 +116,7 @@ digits_back (b ∷ l) h =
     let r = digits_back l h.1 in
     (rw (x, y, lt-ltb (b / 16) 16 (omega (arith, h.0)), lt-ltb (b % 16) 16 (omega arith), r.0), rw (x, y, e, r.1))
 
-pub read_back : (l : List ℕ) → length l ≡ record_size → Bytes l → record_of (hex_digits l) ≡ a_record l
+pub read_back : (l : List ℕ) → length l ≡ record_size → Bytes l → record_of (hex_digits l) ≡ Some l
 unfolding record_of
 read_back l n h =
     let r = digits_back l h in

@@ -1,8 +1,7 @@
 -- A line of text read back as a record's bytes.
-use Rattle.std.specs.Prelude.{ℕ, ◌+◌, ◌-◌, ◌*◌, Bool, true, false, List, [], ◌∷◌, eqb, ltb, length, replicate}
+use Rattle.std.specs.Prelude.{ℕ, ◌+◌, ◌-◌, ◌*◌, Bool, true, List, [], ◌∷◌, eqb, ltb, length, Option, Some, None}
 use Rattle.printer.specs.Tools.{pick, both, within}
 use Rattle.printer.specs.Records.{record_size}
-use Rattle.hex_lines.specs.declared.RecordLine.{RecordLine}
 
 -- the value of a hex digit: 0 to 9, a to f or A to F; of any other byte 16
 abbrev pub digit_value : ℕ → ℕ
@@ -13,6 +12,9 @@ digit_value b =
 
 abbrev pub is_digit : ℕ → Bool
 is_digit b = ltb (digit_value b) 16
+
+abbrev pub digit_of : ℕ → Option ℕ
+digit_of b = pick (is_digit b) (Some (digit_value b)) None
 
 unfoldable pub all_digits : List ℕ → Bool
 all_digits [] = true
@@ -35,11 +37,5 @@ digit_count = 2 * record_size
 abbrev pub is_record : List ℕ → Bool
 is_record l = both (eqb (length l) digit_count) (all_digits l)
 
-abbrev pub a_record : List ℕ → RecordLine
-a_record bytes = record { whole = true; bytes = bytes }
-
-abbrev pub no_record : RecordLine
-no_record = record { whole = false; bytes = replicate record_size 0 }
-
-unfoldable pub record_of : List ℕ → RecordLine
-record_of l = pick (is_record l) (a_record (bytes_of l)) no_record
+unfoldable pub record_of : List ℕ → Option (List ℕ)
+record_of l = pick (is_record l) (Some (bytes_of l)) None

@@ -7,6 +7,7 @@ use mathlib.Core.Logic.{◌↔◌}
 use native.Mathlib.Omega.{arith}
 use lib.ListN.{length, take, drop, get_or}
 use lib.Seq.{take-append_seam}
+use Rattle.std.specs.Prelude.{Ok}
 use Rattle.printer.specs.Tools.{Each, Bytes}
 use Rattle.printer.specs.Accepted.{Ours}
 use Rattle.printer.specs.Records.{room_for_byte, encoded_all}
@@ -32,7 +33,6 @@ use Rattle.registers.proofs.State.{registers-read, registers-accepted, plain, ac
 use Rattle.interpreter.specs.Calls.{run_in, left_in}
 use Rattle.writer.specs.Card.{answer_of, written_of}
 use Rattle.writer.specs.Reading.{start_on}
-use Rattle.writer.specs.declared.CardAnswer.{CardAnswer}
 use Rattle.writer.proofs.Answers.{written-zero}
 use Rattle.writer.proofs.Theorems.{calls_read_back}
 use Rattle.ierbulosc.specs.Calls.{settings_in}
@@ -243,7 +243,7 @@ library_reads_back r w k z before m c l s h q =
     let p = (start_of (settings_in c.given)).printer in
     let o = start_ours (settings_in c.given) in
     let a = as_readings p c.left l h.0.state (on_registers p c.left o h.0.state (map reads l) h.1) in
-    let f : answer_of w.letters (length w.out) ≡ CardAnswer.Written = written-zero _ (sym k.answer ∙ z) in
+    let f : answer_of w.letters (length w.out) ≡ Ok tt = written-zero _ (sym k.answer ∙ z) in
     let b =
     calls_read_back r w.letters (length w.out) before (as_start c) (map as_read l) f s (start_promise _ _ refl) a.readings
     (sym a.read ∙ q ∙ card-written w k) in

@@ -5,6 +5,7 @@ use Rattle.printer.specs.declared.settings.StartSettings.{StartSettings}
 use Rattle.registers.specs.State.{registers_of}
 use Rattle.interpreter.specs.Calls.{run_in, left_in, output_in}
 use Rattle.slot.specs.Slot as slot
+use Rattle.slot.specs.declared.Part.{Part}
 use Rattle.writer.specs.Card as card
 
 -- the settings by their numbers: any but 0 switches automatic line feed on
@@ -30,10 +31,14 @@ pub record EscpReadPromise
   pub counts : counted ≡ counts_of (run_in m input allowance (length out))
   pub output : after ≡ output_in m input allowance out
 
--- escp_slot, of the records, the columns asked for, its answer's number, and where the part begins and how long it is
+-- where a part begins and how long it is
+abbrev pub part_told : Part → List ℕ
+part_told p = p.start ∷ p.length ∷ []
+
+-- escp_slot, of the records, the columns asked for, its answer's number, and the part, empty where the list is refused
 pub record EscpSlotPromise (records : List ℕ) (a b : ℕ) (number : ℕ) (told : List ℕ) : Type 0 where
-  pub answer : number ≡ slot.number_of (slot.part_of a b records).answer
-  pub part : told ≡ (slot.part_of a b records).start ∷ (slot.part_of a b records).length ∷ []
+  pub answer : number ≡ slot.number_of (slot.part_of a b records)
+  pub part : told ≡ part_told (slot.part_given (slot.part_of a b records))
 
 -- escp_write, of the letters and the output before, its answer's number, and the count of bytes written and the output after
 pub record EscpWritePromise (letters out : List ℕ) (number written : ℕ) (after : List ℕ) : Type 0 where

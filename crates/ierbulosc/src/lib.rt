@@ -6,6 +6,7 @@ ghost use Rattle.ierbulosc.specs.Calls.{settings_in, EscpStartPromise, EscpReadP
 
 use printer::settings::StartSettings;
 use registers::COUNT;
+use slot::SlotColumns;
 
 // How many numbers a start's settings are: the fields of `escp_settings`, in their order.
 pub const SETTINGS: usize = 3;
@@ -15,6 +16,12 @@ pub const COUNTS: usize = 2;
 
 // How many numbers say which part of a list: where it begins, and its length.
 pub const PART: usize = 2;
+
+// The answer to the question what stands under a slot, where its list is not refused.
+const ANSWERED: u8 = 0;
+
+// The answer to letters that are written.
+const WRITTEN: u8 = 0;
 
 // The settings by their numbers: any but 0 switches automatic line feed on.
 fn settings_in(given: &[u32; SETTINGS]) -> StartSettings
@@ -59,10 +66,12 @@ pub extern "C" fn escp_read(
 pub extern "C" fn escp_slot(records: &[u8], from: u16, to: u16, part: &mut [usize; PART]) -> u8
     ensures { EscpSlotPromise records.now from to result part.new }
 {
-    let found = slot::part_of(records, from, to);
-    let answer = found.answer;
-    *part = [found.start, found.length];
-    answer.number()
+    let (answer, told) = match slot::part_of(records, SlotColumns { from, to }) {
+        Ok(found) => (ANSWERED, [found.start, found.length]),
+        Err(refused) => (refused.number(), [0, 0]),
+    };
+    *part = told;
+    answer
 }
 
 // Writes the letters of a list, five bytes each (the byte, across (2), down (2), low byte first), as ESC/P that the reader places there.
@@ -70,8 +79,14 @@ pub extern "C" fn escp_slot(records: &[u8], from: u16, to: u16, part: &mut [usiz
 pub extern "C" fn escp_write(letters: &[u8], out: &mut [u8], written: &mut usize) -> u8
     ensures { EscpWritePromise letters.now out.old result written.new out.new }
 {
-    let card = writer::write(letters, out);
-    let answer = card.answer;
-    *written = card.written;
-    answer.number()
+    match writer::write(letters, out) {
+        Ok(count) => {
+            *written = count;
+            WRITTEN
+        }
+        Err(refusal) => {
+            *written = 0;
+            refusal.number()
+        }
+    }
 }

@@ -10,7 +10,7 @@ use borrow.Author.Tests.{eqb-true, ltb-true, ltb-false}
 use Rattle.printer.specs.Tools.{both}
 use Rattle.printer.specs.Units.{rounded}
 use Rattle.printer.proofs.Choices.{both_left, both_right}
-use Rattle.inch.specs.Table.{rows}
+use Rattle.inch.specs.declared.TheConstants.{ROWS}
 
 -- a test passes at each number below n
 below : (ℕ → Bool) → ℕ → Bool
@@ -31,7 +31,7 @@ below_at f (suc n) t j h = go (ltb j n) refl (λ k. below_at f n (both_right (f 
 
 -- the entry of a unit: its own of the eight of its row
 abbrev pub entry : ℕ → ℕ
-entry u = get_or (get_or rows (u / 8) []) (u % 8) 0
+entry u = get_or (get_or ROWS (u / 8) []) (u % 8) 0
 
 right : ℕ → Bool
 right u = eqb (entry u) (rounded 203 u)

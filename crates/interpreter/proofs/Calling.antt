@@ -1,9 +1,12 @@
 -- The calls on registers: those that are accepted, and those that are refused.
 use Prim.Native.Nat.{ℕ}
-use mathlib.Core.Path.{◌≡◌, ◌∙◌}
-use mathlib.Core.Bool.{true, false}
+use mathlib.Core.Path.{◌≡◌, refl, ◌∙◌}
+use mathlib.Core.Bool.{Bool, true, false}
 use mathlib.Core.List.{List}
 use lib.ListN.{length}
+use Rattle.std.specs.Bool.{then_some}
+use Rattle.std.specs.Prelude.{Some}
+use Rattle.std.proofs.lemmas.Option.{none-some}
 use Rattle.printer.specs.Calls.{start_of, started_with}
 use Rattle.printer.specs.PowerOn.{power_on}
 use Rattle.printer.specs.Records.{encoded_all}
@@ -19,6 +22,15 @@ use Rattle.registers.proofs.State.{pended-words, printer-typed, accepted-printer
 use Rattle.interpreter.specs.declared.reading.Ran.{Ran}
 use Rattle.interpreter.specs.Calls.{run_in, left_in, ReadsRegisters, StartsRegisters}
 use Rattle.interpreter.specs.Taking.{Current, RunPromise}
+
+-- what is waited for is there of accepted registers, and of no others
+pub accepted_waits : (t : Bool) {w x : Waiting} → then_some t w ≡ Some x → (t ≡ true) × (x ≡ w)
+accepted_waits true e = (refl, cc)
+accepted_waits false e = absurd (none-some _ e)
+
+pub refused_waits : (t : Bool) (w : Waiting) → ((x : Waiting) → then_some t w ≡ Some x → ⊥) → t ≡ false
+refused_waits true w h = absurd (h w refl)
+refused_waits false w h = refl
 
 -- what the loop is called with
 pub begun : {m : List ℕ} {w : Waiting} → length m ≡ register_count → accepted_in m ≡ true → w ≡ waiting_of (pending_in m)

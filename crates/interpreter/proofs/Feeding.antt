@@ -2,6 +2,7 @@
 use Prim.Native.Nat.{ℕ, ◌+◌, ◌*◌, ◌/◌, ◌%◌, ◌≤◌, ◌<◌}
 use mathlib.Core.Path.{◌≡◌, refl, ap, ◌∙◌}
 use mathlib.Core.Bool.{Bool, true, false}
+use Rattle.std.specs.Prelude.{Some, None}
 use mathlib.Core.List.{List, [], ◌∷◌}
 use native.Mathlib.Nat.{div-add-mod', mul-le-mul_left, mod-eq_of_lt}
 use native.Mathlib.Omega.{arith}
@@ -15,6 +16,7 @@ use Rattle.printer.specs.Performing.{done, inside}
 use Rattle.printer.specs.Deciding.{pages_of_line, feed_after_return}
 use Rattle.printer.specs.declared.commands.Command.{Command}
 use Rattle.printer.specs.declared.commands.Control.{Control}
+use Rattle.printer.specs.declared.records.Record.{Record}
 use Rattle.printer.specs.declared.state.Printer.{Printer}
 use Rattle.printer.specs.declared.units.Units.{Units}
 use Rattle.registers.specs.declared.pending.Pending.{Pending}
@@ -24,20 +26,19 @@ use Rattle.interpreter.specs.Doing.{Did}
 use Rattle.interpreter.specs.Reaching.{downward, further_down}
 use Rattle.interpreter.specs.Leaving.{line_to, fed_to}
 use Rattle.interpreter.specs.declared.lines.Depth.{Depth}
-use Rattle.interpreter.specs.declared.positions.Position.{Position}
 use Rattle.interpreter.proofs.Outcomes.{one, whole}
 use Rattle.interpreter.proofs.Attempts.{reached, unreached}
 use Rattle.interpreter.proofs.Events.{nothing}
 
 -- LF, by where its line ends
 module _ (p : Printer) where
-  pub feeds : {n : Units} → downward (down_of p.place) (line_of p.settings) (edge_of p.settings) ≡ Position.At n
+  pub feeds : {n : Units} → downward (down_of p.place) (line_of p.settings) (edge_of p.settings) ≡ Some n
       → Outcome p (inside Control.LineFeed (pages_of_line p) ∷ []) (line_to p n.0 0)
   feeds e =
       let f = reached _ _ _ e in
       rw (lt-leb _ _ (ltb-true _ _ f.0), ← f.1) (one p (inside Control.LineFeed 0) refl refl)
 
-  pub turns : downward (down_of p.place) (line_of p.settings) (edge_of p.settings) ≡ Position.Outside
+  pub turns : downward (down_of p.place) (line_of p.settings) (edge_of p.settings) ≡ None
       → Outcome p (inside Control.LineFeed (pages_of_line p) ∷ []) (line_to p 0 1)
   turns e = rw (le-leb _ _ (ltb-false _ _ (unreached _ _ e))) (one p (inside Control.LineFeed 1) refl refl)
 
@@ -48,14 +49,14 @@ module _ (p : Printer) where
   unfolding feed_after_return
   after-return e = ap (λ (t : Bool). pick t (inside Control.LineFeed (pages_of_line p) ∷ []) []) e
 
-  pub feeds-after : {v : Pending} {after xs ys : List ℕ} {at end : ℕ} → p.settings.setup.autofeed ≡ true
-      → Did p v (inside Control.LineFeed (pages_of_line p) ∷ []) after xs at end ys
-      → Did p v (feed_after_return p) after xs at end ys
+  pub feeds-after : {v : Pending} {after : List ℕ} {k : List Record} → p.settings.setup.autofeed ≡ true
+      → Did p v (inside Control.LineFeed (pages_of_line p) ∷ []) after k
+      → Did p v (feed_after_return p) after k
   feeds-after t d = rw (after-return t) d
 
-  pub stays_after : {v : Pending} {after : List ℕ} (xs : List ℕ) (at : ℕ) → p.settings.setup.autofeed ≡ false
-      → after ≡ words v p → Did p v (feed_after_return p) after xs at at xs
-  stays_after xs at t e = rw (after-return t) (nothing xs at e)
+  pub stays_after : {v : Pending} {after : List ℕ} → p.settings.setup.autofeed ≡ false
+      → after ≡ words v p → Did p v (feed_after_return p) after []
+  stays_after t e = rw (after-return t) (nothing e)
 
 -- ESC J, in a state within its bounds: the edge is at least the shortest page, and the pages fit a byte
 module _ (p : Printer) (n : ℕ) (k : n ≤ 255) (h : Accepted p) where

@@ -106,13 +106,10 @@ module _
           let k : Room < room_for_byte = omega (arith, long) in
           ends Answer.OutputFull (rw (next, reads P Byte _ left Room some-allowance, lt-ltb Room room_for_byte k))
 
-  -- what a turn is called with: some input, so much as the allowance covers, and some room
+  -- what a turn is called with: some input, and some room
   pub part-some : {k : ℕ} → k ≡ min left (length input - at) → (at ≡ length input → ⊥) → (left ≡ 0 → ⊥)
       → 0 < length (take (at + k - at) (drop at input))
   part-some e i a = simp (length-take, length-drop) (omega (arith, g.within))
-
-  pub part-within : {k : ℕ} → k ≡ min left (length input - at) → length (take (at + k - at) (drop at input)) ≤ left
-  part-within e = simp (length-take, length-drop) (omega arith)
 
   pub room-some : room_for_byte ≤ length out - written → room_for_byte ≤ length (mid_of written (length out - written) out)
   room-some h = simp (length-take, length-drop) (omega (arith, long))
@@ -156,14 +153,13 @@ module _
     pub within-output : written + back.written ≤ length out₀
     within-output = omega (arith, wrote-part.place, g.fits, taken-fits P Read Room enough)
 
-    pub goes_on : Bytes input → back.left + back.read ≡ left
+    pub goes_on : Bytes input
         → Going input allowance out₀ p₀ v m' (put_mid written (length out - written) out zs) back.waiting
-        (at + back.read) back.left (written + back.written)
-    goes_on b f =
+        (at + back.read) (left - back.read) (written + back.written)
+    goes_on b =
         let bytes : Bytes Read = bytes_take back.read _ (bytes_rest (take at input) (drop at input) (rw take-append-drop b)) in
         let o = steps_ours P Read bytes (record { typed = g.current.typed; accepted = g.current.accepted }) in
         let r : Room - record_size * length (records_over P Read) ≡ length out₀ - (written + back.written) = omega (arith, wrote-part.place) in
-        let n : left - back.read ≡ back.left = omega (arith, f) in
         record {
           printer = state_after P Read;
           current = ours_current o (rw same_part at t.same) (rw same_part at t.waits);
@@ -171,9 +167,5 @@ module _
           within = within-input;
           fits = within-output;
           wrote = more g.wrote g.fits wrote-part;
-          whole = g.whole ∙ rw (rest, r, n) (after_part at back.read g.records (records_over P Read) _);
+          whole = g.whole ∙ rw (rest, r) (after_part at back.read g.records (records_over P Read) _);
         }
-
-    -- some of it is read, so that less is left
-    pub turn-less : 0 < back.read → length input - (at + back.read) < length input - at
-    turn-less n = omega (arith, within-input)

@@ -9,7 +9,6 @@ pub mod Shifts
 pub mod Taken
 pub mod Turns
 pub mod Going
-pub mod Pasting
 pub mod Events
 pub mod Attempts
 pub mod Feeding

@@ -1,6 +1,6 @@
 -- How the outcome of events follows from what a function gives back: one event, a test that decides, an event before others.
 use Prim.Native.Nat.{ℕ}
-use mathlib.Core.Path.{◌≡◌, refl, sym, ap, subst, ◌∙◌}
+use mathlib.Core.Path.{◌≡◌, refl, sym, ap, ◌∙◌}
 use mathlib.Core.Bool.{Bool, true, false}
 use mathlib.Core.List.{List, [], ◌∷◌, append-nil}
 use Rattle.printer.specs.Tools.{holds}
@@ -13,7 +13,6 @@ use Rattle.printer.specs.declared.records.Record.{Record}
 use Rattle.printer.specs.declared.state.Printer.{Printer}
 use Rattle.registers.specs.declared.pending.Pending.{Pending}
 use Rattle.registers.specs.Layout.{words}
-use Rattle.interpreter.specs.Output.{Written}
 use Rattle.interpreter.specs.Outcome.{Stepped, stepped, Outcome}
 use Rattle.interpreter.specs.Doing.{Did}
 
@@ -62,10 +61,6 @@ module _ (p : Printer) (fits : Bool) (c : Command) (e : Event) {r : Stepped} whe
   out_of_range t h = rw t (passed_over p c 2 h)
 
 -- events done on registers, by their outcome
-pub did : {p : Printer} {v : Pending} {l : List Event} {r : Stepped} {after xs ys : List ℕ} {at end : ℕ}
-    → Outcome p l r → after ≡ words v r.printer → Written xs at r.records end ys → Did p v l after xs at end ys
-did {p} {v} {l} {r} {after} {xs} {ys} {at} {end} o e w =
-    record {
-      state = e ∙ ap (words v) o.printer;
-      wrote = subst (λ (k : List Record). Written xs at k end ys) o.records w;
-    }
+pub did : {p : Printer} {v : Pending} {l : List Event} {r : Stepped} {after : List ℕ} {k : List Record}
+    → Outcome p l r → after ≡ words v r.printer → r.records ≡ k → Did p v l after k
+did {v} o e w = record { state = e ∙ ap (words v) o.printer; wrote = sym o.records ∙ w }

@@ -1,15 +1,16 @@
 -- What a printed record shows of the registers.
-use Prim.Native.Nat.{ℕ, ◌+◌, ◌%◌, ◌≤◌}
+use Prim.Native.Nat.{ℕ, ◌%◌, ◌≤◌}
 use mathlib.Core.Path.{◌≡◌, ap, ◌∙◌}
 use mathlib.Core.Bool.{Bool, true, false}
-use mathlib.Core.List.{List, [], ◌∷◌}
+use mathlib.Core.List.{List, [], ◌∷◌, ◌++◌}
 use native.Mathlib.Omega.{arith}
-use lib.ListN.{length, get_or}
+use lib.ListN.{get_or}
 use Rattle.printer.specs.Tools.{pick}
-use Rattle.printer.specs.Records.{record_size, style_of}
+use Rattle.printer.specs.Records.{style_of}
 use Rattle.printer.specs.Widths.{double_width}
-use Rattle.printer.specs.Performing.{Event, inside, automatic, perform, perform_all, records_all}
+use Rattle.printer.specs.Performing.{Event, inside, automatic, perform, perform_all}
 use Rattle.printer.specs.declared.commands.Control.{Control}
+use Rattle.printer.specs.declared.records.Record.{Record}
 use Rattle.printer.specs.declared.settings.Settings.{Settings}
 use Rattle.printer.specs.declared.state.Printer.{Printer}
 use Rattle.registers.specs.declared.pending.Pending.{Pending}
@@ -56,15 +57,12 @@ module _ {p : Printer} {v : Pending} {m : List ℕ} (h : Held p v m) where
   unfolding settings_in
   country-held = ap (λ (s : Settings). s.face.country) (settings-held h)
 
--- A letter after a line fed: where its record goes, and what the registers then hold
-module _ {p : Printer} {v : Pending} {after xs ys : List ℕ} {at end n : ℕ} (d : Did p v (inside Control.LineFeed n ∷ []) after xs at end ys) where
+-- A letter after a line fed: its records, and what the registers then hold
+module _ {p : Printer} {v : Pending} {after : List ℕ} {k : List Record} {n : ℕ} (d : Did p v (inside Control.LineFeed n ∷ []) after k) where
   pub fed-held : {m : List ℕ} → Held p v m → Held (perform p (automatic n)) v after
   unfolding perform_all
   fed-held h = record { same = d.state; small = h.small; long = h.long }
 
-  pub wraps : (l : List Event) {zs : List ℕ} {last : List ℕ} {next : ℕ} → at + record_size ≤ length xs
-      → Did (perform p (automatic n)) v l last ys (at + record_size) next zs → Did p v (automatic n ∷ l) last xs at next zs
-  unfolding records_all
-  wraps l {zs} {last} {next} fits f =
-      let e : end ≡ at + record_size = d.wrote.place in
-      then-did (automatic n) l (rw e fits) (automatically d) (rw e f)
+  pub wraps : (l : List Event) {last : List ℕ} {j : List Record} → Did (perform p (automatic n)) v l last j
+      → Did p v (automatic n ∷ l) last (k ++ j)
+  wraps l f = then-did (automatic n) l (automatically d) f

@@ -1,22 +1,25 @@
 -- Searches among stops: a loop's invariant and its turns, and where the stop that is found is.
-use Prim.Native.Nat.{ℕ, suc, ◌+◌, ◌≤◌, ◌<◌, min}
-use mathlib.Core.Path.{◌≡◌, refl, sym, ap, ◌∙◌}
-use mathlib.Core.Bool.{Bool, true, false}
+use Prim.Native.Nat.{ℕ, suc, ◌+◌, ◌≤◌, ◌<◌}
+use mathlib.Core.Path.{◌≡◌, refl, sym, ◌∙◌}
+use mathlib.Core.Bool.{Bool}
 use mathlib.Core.List.{List, [], ◌∷◌}
 use native.Mathlib.Numerals.{add-one}
 use native.Mathlib.Omega.{arith}
 use lib.Dec.{ltb}
-use lib.ListN.{length, take, drop, get_or, length-take, drop_of_length-le}
-use lib.Seq.{drop-cons, get_or-take}
+use lib.ListN.{length, drop, get_or, drop_of_length-le}
+use lib.Seq.{drop-cons}
+use Rattle.std.specs.Prelude.{Option, Some, None}
 use Rattle.printer.specs.Units.{units}
 use Rattle.printer.specs.Settings.{left_of, right_of, column_of, across_of}
-use Rattle.printer.specs.Deciding.{column_from, line_from}
+use Rattle.printer.specs.Deciding.{numbered, column_from, line_from}
 use Rattle.printer.specs.declared.settings.Settings.{Settings}
 use Rattle.printer.specs.declared.state.Place.{Place}
 use Rattle.printer.specs.declared.stops.Stop.{Stop}
 use Rattle.printer.specs.declared.units.Units.{Units}
 use Rattle.printer.proofs.Choices.{pick_elim}
 use Rattle.printer.proofs.CodeLaws.{both_true}
+use Rattle.interpreter.specs.Reaching.{reach}
+use Rattle.interpreter.proofs.Attempts.{reached, unreached}
 use Rattle.interpreter.specs.Searching.{first_from, column_at, is_ahead}
 
 -- The searches of HT and VT
@@ -34,57 +37,49 @@ line_search down k (n ∷ l) = rw (line_search down (suc k) l)
 
 -- A loop over the stops that are held: what is found among those left, after those passed, is what is found among all
 
-pub record Left (f : ℕ → ℕ) (test : ℕ → Bool) (stops : List ℕ) (count end i : ℕ) : Type 0 where
-  pub held : end ≡ min count (length stops)
-  pub passed : i ≤ end
-  pub same : first_from f test 1 (take count stops) ≡ first_from f test (suc i) (drop i (take count stops))
+module _ (f : ℕ → ℕ) (test : ℕ → Bool) (l : List ℕ) {i : ℕ} (h : i < length l)
+    (v : first_from f test 1 l ≡ first_from f test (suc i) (drop i l)) where
+  one : drop i l ≡ get_or l i 0 ∷ drop (i + 1) l
+  one = rw add-one (drop-cons l i 0 h)
 
-module _ {f : ℕ → ℕ} {test : ℕ → Bool} {stops : List ℕ} {count end : ℕ} where
-  pub begins : end ≡ min count (length stops) → Left f test stops count end 0
-  begins e = record { held = e; passed = omega arith; same = refl }
+  pub finds : {x : Units} → Some x ≡ reach (test (f (get_or l i 0))) (f (get_or l i 0))
+      → Some (numbered (i + 1) x) ≡ first_from f test 1 l
+  unfolding first_from
+  finds {x} e =
+      let k = reached (test (f (get_or l i 0))) _ x (sym e) in
+      sym (v ∙ rw (one, k.0, k.1, add-one))
 
-  module _ {i : ℕ} (v : Left f test stops count end i) where
-    one : i < end → drop i (take count stops) ≡ get_or stops i 0 ∷ drop (i + 1) (take count stops)
-    one h =
-        let k : i < count = omega (arith, v.held) in
-        let q : i < length (take count stops) = simp length-take (omega (arith, v.held)) in
-        drop-cons (take count stops) i 0 q ∙ rw (add-one, get_or-take count stops i 0 k)
+  pub passes : None ≡ reach (test (f (get_or l i 0))) (f (get_or l i 0))
+      → first_from f test 1 l ≡ first_from f test (suc (i + 1)) (drop (i + 1) l)
+  unfolding first_from
+  passes e =
+      let k = unreached (test (f (get_or l i 0))) _ (sym e) in
+      v ∙ simp (one, k, add-one)
 
-    pub finds : i < end → test (f (get_or stops i 0)) ≡ true
-        → Stop.Found (i + 1) (units (f (get_or stops i 0))) ≡ first_from f test 1 (take count stops)
-    unfolding first_from
-    finds h t = sym (v.same ∙ simp (one h, t, add-one))
-
-    pub goes_on : i < end → test (f (get_or stops i 0)) ≡ false → Left f test stops count end (i + 1)
-    unfolding first_from
-    goes_on h t = record { held = v.held; passed = omega arith; same = v.same ∙ simp (one h, t, add-one) }
-
-    pub ends : end ≤ i → Stop.Missing ≡ first_from f test 1 (take count stops)
-    unfolding first_from
-    ends h =
-        sym (v.same ∙ rw (drop_of_length-le (take count stops) {i = i} (simp length-take (omega (arith, v.held)))))
+pub none-found : (f : ℕ → ℕ) (test : ℕ → Bool) (l : List ℕ) {i : ℕ} → length l ≤ i
+    → first_from f test 1 l ≡ first_from f test (suc i) (drop i l) → None ≡ first_from f test 1 l
+unfolding first_from
+none-found f test l {i = i} h v = sym (v ∙ rw (drop_of_length-le l {i = i} h))
 
 -- The position that is found is that of the stop of its number
 
-pub record Taken (f : ℕ → ℕ) (first : ℕ) (l : List ℕ) (k : ℕ) (to : Units) : Type 0 where
+pub record Taken (f : ℕ → ℕ) (first : ℕ) (l : List ℕ) (s : Stop) : Type 0 where
   pub index : ℕ
-  pub number : k ≡ first + index
-  pub position : f (get_or l index 0) ≡ to.0
+  pub number : s.number ≡ first + index
+  pub position : f (get_or l index 0) ≡ s.place.0
 
-pub taken : (f : ℕ → ℕ) (test : ℕ → Bool) (first : ℕ) (l : List ℕ) (k : ℕ) (to : Units)
-    → first_from f test first l ≡ Stop.Found k to → Taken f first l k to
+pub taken : (f : ℕ → ℕ) (test : ℕ → Bool) (first : ℕ) (l : List ℕ) (s : Stop) → first_from f test first l ≡ Some s → Taken f first l s
 unfolding first_from
-taken f test first [] k to e = absurd (let z : ◌≡◌ {A = ℕ} 0 1 = cc in omega arith)
-taken f test first (m ∷ l) k to e =
-    pick_elim (λ (x : Stop). x ≡ Stop.Found k to → Taken f first (m ∷ l) k to) (test (f m))
+taken f test first [] s e = cc
+taken f test first (m ∷ l) s e =
+    pick_elim (λ (x : Option Stop). x ≡ Some s → Taken f first (m ∷ l) s) (test (f m))
     (λ h g.
-    let same : units (f m) ≡ to = cc in
-    let number : first ≡ k = cc in
-    record { index = 0; number = omega arith; position = ap (λ (u : Units). u.0) same })
+    let same : numbered first (units (f m)) ≡ s = cc in
+    rw (← same) (record { index = 0; number = omega arith; position = refl }))
     (λ h g.
-    let v = taken f test (suc first) l k to g in
+    let v = taken f test (suc first) l s g in
     record { index = suc v.index; number = omega (arith, v.number); position = v.position })
     e
 
-pub counted : {f : ℕ → ℕ} {l : List ℕ} {k : ℕ} {to : Units} (v : Taken f 1 l k to) → k ≡ suc v.index
+pub counted : {f : ℕ → ℕ} {l : List ℕ} {s : Stop} (v : Taken f 1 l s) → s.number ≡ suc v.index
 counted v = omega (arith, v.number)

@@ -3,26 +3,29 @@ use Prim.Native.Nat.{ℕ, zero, suc, ◌+◌, ◌*◌, ◌-◌, ◌%◌, ◌≤�
 use mathlib.Core.Path.{◌≡◌, refl, ap, ◌∙◌}
 use mathlib.Core.Bool.{Bool, true, false}
 use mathlib.Core.List.{List, [], ◌∷◌, ◌++◌}
-use native.Mathlib.Nat.{zero-mul, suc-mul, add-zero, sub-zero, mul-one, add-mul, mul-le-mul_right, le-mul_of_pos_right, le_of_mul-le-mul_right}
+use native.Mathlib.Nat.{zero-mul, suc-mul, add-zero, mul-one, add-mul, mul-le-mul_right, le-mul_of_pos_right, le_of_mul-le-mul_right}
 use native.Mathlib.Numerals.{add-one}
 use native.Mathlib.Omega.{arith}
 use lib.Dec.{eqb}
-use lib.ListN.{length, take, drop, get_or, set}
-use lib.Seq.{take-suc, length-take-le, set-get_or}
+use lib.ListN.{length, take, get_or, set}
+use lib.Seq.{take-suc, take-take, length-take-le, set-get_or}
 use borrow.Author.Tests.{eqb-true, eqb-false}
 use Rattle.printer.specs.Tools.{pick}
 use Rattle.printer.specs.Records.{record_size, encoded_all}
 use Rattle.printer.specs.declared.records.Record.{Record}
-use Rattle.printer.specs.Units.{rounded, rest_word}
+use Rattle.printer.specs.Units.{rounded, rest_word, per_inch_across}
 use Rattle.printer.proofs.Choices.{each_append}
 use Rattle.printer.proofs.CodeLaws.{product}
 use Rattle.measures.specs.declared.rounding.Exact.{Exact}
 use Rattle.measures.specs.Exact.{packed, carried, dot_of, rest_of}
 use Rattle.measures.proofs.Exact.{packed_dot, packed-rest, packed-sum}
-use Rattle.registers.specs.Register.{across_at}
+use Rattle.registers.specs.Register.{across_at, right_at, dots_across_at}
+use Rattle.registers.specs.Groups.{resolution_of}
 use Rattle.framing.specs.Letters.{prints_from}
 use Rattle.interpreter.specs.Output.{Written}
-use Rattle.interpreter.specs.Series.{of_part, like_at, placed_all, AllPrint, Reached, OnLine, Walks, spot_after}
+use Rattle.interpreter.specs.Series.{of_part, like_at, placed_all, AllPrint, Reached, OnLine, Formed, OnPaper, Placeable, Placing, spot_after}
+use Rattle.interpreter.specs.declared.series.Placed.{Placed}
+use Rattle.interpreter.specs.declared.series.Series.{Series}
 use Rattle.interpreter.specs.declared.series.Spot.{Spot}
 use Rattle.interpreter.specs.Taking.{Fits}
 use Rattle.interpreter.proofs.Writes.{none, more, same_length}
@@ -115,7 +118,8 @@ placed_more v d step bytes (a ∷ l) x k done part b h s =
 
 -- what the loop begins with: an exact place and step, and a byte of a column
 pub record Begun (d x step bytes k most by : ℕ) (s : Spot) : Type 0 where
-  pub walks : Walks d x step s.exact.0 by
+  pub place : s.exact.0 ≡ packed (x * d + 1800)
+  pub each : by ≡ packed (step * d)
   pub spot : (s.part ≡ k) × (s.done ≡ 0)
   pub from : (1 ≤ k) × (k ≤ bytes)
   pub moves : 0 < step
@@ -137,7 +141,7 @@ begins {d = d} {x = x} {step = step} {bytes = bytes} {k = k} {out = out} {s = s}
     record {
       within = omega arith;
       reached = rw (b.spot.0, b.spot.1) (record { counted = rw zero-mul; low = b.from.0; high = b.from.1 });
-      place = b.walks.place ∙ rw (b.spot.1, zero-mul, add-zero);
+      place = b.place ∙ rw (b.spot.1, zero-mul, add-zero);
       written = omega arith;
       printed = tt;
       wrote = none out 0;
@@ -163,7 +167,7 @@ module _
   on_line : (j : ℕ) → x + j * step ≤ 28800 → (x + j * step) * d ≤ 8640000
   on_line j h = product _ _ 28800 300 h dots
 
-  line-so-far : x + s.done * step ≤ 28800
+  pub line-so-far : x + s.done * step ≤ 28800
   line-so-far = done-within g.reached (shorter n g.within) b.from
 
   -- the place in 1/3600 dot, its dot and its rest
@@ -185,9 +189,6 @@ module _
     next : take (n + 1) input ≡ take n input ++ (get_or input n 0 ∷ [])
     next = rw (add-one, take-suc input n 0)
 
-    pub room-enough : at + record_size ≤ length out
-    room-enough = omega (arith, long, g.written)
-
     -- the exact place after the byte
     place_after : pick (eqb s.part bytes) (carried ((s.exact.0 + by) % 4294967296)) s.exact.0
         ≡ packed ((x + pick (eqb s.part bytes) (s.done + 1) s.done * step) * d + 1800)
@@ -202,7 +203,7 @@ module _
         let few-parts : step * d ≤ 8640000 = product step d 28800 300 (omega (arith, i, h)) dots in
         let a : (x + s.done * step) * d + 1800 + step * d ≡ (x + (s.done + 1) * step) * d + 1800 =
         rw i (omega (arith, add-mul (x + s.done * step) step d)) in
-        rw (g.place, b.walks.each, packed-sum ((x + s.done * step) * d + 1800) (step * d) (omega (arith, so_far)) (omega (arith, few-parts)), a))
+        rw (g.place, b.each, packed-sum ((x + s.done * step) * d + 1800) (step * d) (omega (arith, so_far)) (omega (arith, few-parts)), a))
         (λ _ _. g.place) after
 
     pub goes_on : {r : Record} {out' : List ℕ} → prints_from from (get_or input n 0) ≡ true
@@ -229,14 +230,6 @@ place-known x e f = ap (λ (p : Exact). p.0) e ∙ ap (λ (k : ℕ). packed (x *
 pub step_known : (step : ℕ) {by : Exact} {n d : ℕ} → by ≡ record { 0 = packed (step * n) } → n ≡ d → by.0 ≡ packed (step * d)
 step_known step e f = ap (λ (p : Exact). p.0) e ∙ ap (λ (k : ℕ). packed (step * k)) f
 
--- A part of the input
-
-pub part_same : (n : ℕ) (l : List ℕ) → take (n - 0) (drop 0 l) ≡ take n l
-part_same n l = rw sub-zero
-
-pub part_length : (n : ℕ) (l : List ℕ) → n ≤ length l → length (take (n - 0) (drop 0 l)) ≡ n
-part_length n l h = rw part_same (length-take-le n l h)
-
 -- fewer bytes are on the line, and fit, too
 pub fewer_line : {n most bytes k across step right : ℕ} → OnLine most bytes k across step right → n ≤ most → OnLine n bytes k across step right
 fewer_line f h = record { whole = f.whole; enough = omega (arith, f.enough); in-margin = f.in-margin }
@@ -255,6 +248,44 @@ fewer_fit f h =
       some-input = omega (arith, f.some-input);
       some-room = omega (arith, f.some-room);
     }
+
+-- What the loop begins with, on the registers
+pub begun : {m : List ℕ} {s : Series} {most room : ℕ} {e : Exact} → Placeable m s most room
+    → e ≡ record { 0 = packed (get_or m across_at 0 * per_inch_across (resolution_of (get_or m dots_across_at 0)) + 1800) }
+    → Begun (get_or m dots_across_at 0) (get_or m across_at 0) s.step.0 s.bytes s.part most s.by.0 (record { exact = e; part = s.part; done = 0 })
+begun {m} p f =
+    record {
+      place = place-known (get_or m across_at 0) f p.paper.inch;
+      each = p.formed.exact;
+      spot = (refl, refl);
+      from = p.formed.begins;
+      moves = p.formed.moves;
+      on_line = on_paper p.line p.paper.margin;
+    }
+
+-- A part of the input is given to it, of bytes that fit
+
+pub placeable : {m : List ℕ} {s : Series} {columns n : ℕ} (input out : List ℕ) → Formed m s → OnPaper m
+    → Fits n s.bytes s.part columns (length input) (length out) (get_or m across_at 0) s.step.0 (get_or m right_at 0)
+    → Placeable m s (length (take n input)) (length out)
+placeable {n = n} input out f p h =
+    rw (length-take-le n input h.some-input)
+    (record { formed = f; paper = p; line = h.line; fits = omega (arith, h.some-room) })
+
+pub placed-of : {m : List ℕ} {s : Series} {from n : ℕ} {input out : List ℕ} {r : Placed} {after wrote : List ℕ} → n ≤ length input
+    → Placing m s from (take n input) out r after wrote → Placing m s from input out r after wrote × (r.count ≤ n)
+placed-of {n = n} {input = input} {r = r} h g =
+    let c : r.count ≤ n = omega (arith, g.few, length-take-le n input h) in
+    let t : take r.count (take n input) ≡ take r.count input = take-take r.count n input c in (
+      record {
+        few = omega (arith, c, h);
+        printed = rw t at g.printed;
+        reached = g.reached;
+        moved = g.moved;
+        records = rw t at g.records;
+      },
+      c,
+    )
 
 -- Where none is placed, nothing changes
 

@@ -1,13 +1,13 @@
 -- Registers with some settings stored, and then what follows from the settings.
 use Prim.Native.Nat.{ℕ}
 use mathlib.Core.Path.{◌≡◌, refl, sym, ap, subst, ◌∙◌}
-use mathlib.Core.Bool.{Bool, true, false, not, ◌&&◌}
+use mathlib.Core.Bool.{Bool, true, false, not}
 use mathlib.Core.List.{List, [], ◌∷◌}
 use lib.Dec.{eqb}
 use lib.ListN.{get_or, set}
 use Rattle.printer.specs.Tools.{pick, passes, holds}
 use Rattle.printer.specs.Records.{style_of}
-use Rattle.printer.specs.Settings.{advance_of, column_of, with_wide_once}
+use Rattle.printer.specs.Settings.{advance_of, column_of, with_width, with_reduced, with_wide_once}
 use Rattle.printer.specs.Performing.{with_parts}
 use Rattle.printer.specs.Deciding.{can_reduce, reduced_needs}
 use Rattle.printer.specs.declared.settings.Pitch.{Pitch}
@@ -51,17 +51,26 @@ module _ {p : Printer} {v : Pending} {m : List ℕ} (h : Held p v m) (s : Settin
         → after ≡ words v changed
     look-stored alike = stored ∙ rw e (look-kept (λ (l : List ℕ). shown_stored l k n) (shown-kept (styled-held h) k n) alike)
 
-    pub shown-measured : Small s
-        → shown_stored (words v p) k n ≡ laid_with (get_or (shown_stored (words v p) k n) style_at 0) p.settings
-        → measured after ≡ words v changed
-    shown-measured small alike =
-        ap measured stored ∙ rw e (widths-kept (λ (l : List ℕ). shown_stored l k n) (shown-kept (styled-held h) k n) small alike)
+  -- one that shows, and that the widths depend on
+  pub shown-measured : Small s → (k : Shown) (n : ℕ) {after : List ℕ} → after ≡ measured (shown_stored m k n)
+      → shown_stored (words v p) k n ≡ laid_with (get_or (shown_stored (words v p) k n) style_at 0) p.settings
+      → after ≡ words v changed
+  shown-measured small k n stored alike =
+      stored ∙ widths-kept (λ (l : List ℕ). shown_stored l k n) (shown-kept (styled-held h) k n) small alike
 
-  -- one that does not
+  -- one that does not show
   pub width-stored : Small s → (register : ℕ) {n number : ℕ} {after : List ℕ} → number ≡ n → after ≡ measured (set m register number)
       → set (words v p) register n ≡ laid_with (style_of s) p.settings → after ≡ words v changed
   width-stored small register {n} e stored alike =
       stored ∙ rw e (ap (λ (l : List ℕ). measured (set l register n)) h.same ∙ ap measured alike ∙ measured-laid v _ changed small)
+
+-- SI, and DC2 that ends it
+pub reduced-stored : {p : Printer} {v : Pending} {m after : List ℕ} → Held p v m → (on : Bool)
+    → after ≡ measured (shown_stored m Shown.Reduced (flag on))
+    → after ≡ words v (with_parts p (with_width p.settings (with_reduced p.settings.width on)) p.place p.stops)
+unfolding laid shown_stored
+reduced-stored {p} h on stored =
+    shown-measured h (with_width p.settings (with_reduced p.settings.width on)) h.small Shown.Reduced (flag on) stored refl
 
 -- SO that is not in force is ended
 pub wide_once_off : {p : Printer} {v : Pending} {m : List ℕ} → Held p v m → get_or m wide_once_at 0 ≡ 0
@@ -82,10 +91,6 @@ reduced_by_pitch {p} h = rw h.same (by_number p.settings.width.pitch)
     by_number Pitch.Cpi10 = refl
     by_number Pitch.Cpi12 = refl
     by_number Pitch.Cpi15 = refl
-
-pub and_pick : (t u : Bool) → (t && u) ≡ pick t u false
-and_pick true u = refl
-and_pick false u = refl
 
 pub not_pick : (t : Bool) → not t ≡ pick t false true
 not_pick true = refl

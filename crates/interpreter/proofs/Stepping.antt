@@ -2,7 +2,7 @@
 use Prim.Native.Nat.{ℕ}
 use mathlib.Core.Path.{◌≡◌, sym, ap, ◌∙◌}
 use mathlib.Core.Bool.{true, false}
-use mathlib.Core.List.{List}
+use mathlib.Core.List.{List, []}
 use lib.ListN.{get_or}
 use Rattle.printer.specs.Framing.{is_letter, read_as, first_of, second_of, first_frame, second_frame, continued, list_frame, after_image_byte, frame}
 use Rattle.printer.specs.Performing.{perform_all, records_all}
@@ -15,6 +15,7 @@ use Rattle.printer.specs.declared.commands.First.{First}
 use Rattle.printer.specs.declared.commands.Frame.{Frame}
 use Rattle.printer.specs.declared.commands.Listing.{Listing}
 use Rattle.printer.specs.declared.commands.Second.{Second}
+use Rattle.printer.specs.declared.records.Record.{Record}
 use Rattle.printer.specs.declared.commands.Waiting.{Waiting}
 use Rattle.printer.specs.declared.state.Printer.{Printer}
 use Rattle.registers.specs.declared.pending.Pending.{Pending}
@@ -23,22 +24,19 @@ use Rattle.registers.specs.Groups.{is_set}
 use Rattle.registers.specs.Layout.{laid}
 use Rattle.registers.proofs.Reading.{upper-held}
 use Rattle.interpreter.specs.Doing.{Did}
-use Rattle.interpreter.specs.Taking.{Current, stepping, StepPromise}
-use Rattle.interpreter.proofs.Writes.{none}
+use Rattle.interpreter.specs.Taking.{Current, StepPromise}
 
 module _ {p : Printer} {v : Pending} {w : Waiting} {m : List ℕ} (h : Current p v w m) where
   -- the frame by the registers is that of the rules
   frame_here : (b : ℕ) {f : Frame} → f ≡ frame (is_set (get_or m upper_prints_at 0)) w b → frame_at p b ≡ f
   frame_here b {f} e = sym (rw (upper-held h.held, h.waits) at e)
 
-  pub waited : (b : ℕ) {next : Waiting} {xs : List ℕ} {at : ℕ} → frame_at p b ≡ Frame.Waits next
-      → StepPromise p v b (stepping next at) m xs at xs
+  pub waited : (b : ℕ) {next : Waiting} → frame_at p b ≡ Frame.Waits next → StepPromise p v b next [] m
   unfolding step_of step_events step_records perform_all records_all laid
-  waited b {next} {xs} {at} e = record { same = rw e h.held.same; waits = rw e; wrote = rw e (none xs at) }
+  waited b e = record { same = rw e h.held.same; waits = rw e; wrote = rw e }
 
-  pub whole : (b : ℕ) {c : Command} {next : Waiting} {m' xs ys : List ℕ} {at end : ℕ} → frame_at p b ≡ Frame.Whole c next
-      → Did p v (decide p c) m' xs at end ys
-      → StepPromise p v b (stepping next end) m' xs at ys
+  pub whole : (b : ℕ) {c : Command} {next : Waiting} {m' : List ℕ} {k : List Record} → frame_at p b ≡ Frame.Whole c next
+      → Did p v (decide p c) m' k → StepPromise p v b next k m'
   unfolding step_of step_events step_records laid
   whole b e d = record { same = rw e d.state; waits = rw e; wrote = rw e d.wrote }
 

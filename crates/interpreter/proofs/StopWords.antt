@@ -135,9 +135,11 @@ module _ (v : Pending) (p : Printer) where
 
     -- and one list replaced
 
-    pub emptied : paste (words v p) gathered_count_at (replicate 33 0) 33 ≡ words v (with_stops p (gathering t no_stops))
+    pub emptied : take gathered_count_at (words v p) ++ (replicate 33 0 ++ drop (gathered_count_at + 33) (words v p))
+        ≡ words v (with_stops p (gathering t no_stops))
     emptied =
-        ap (λ (l : List ℕ). paste l gathered_count_at (replicate 33 0) 33) (split t.gathered)
+        sym (append_assoc (take gathered_count_at (words v p)) (replicate 33 0) (drop (gathered_count_at + 33) (words v p)))
+        ∙ ap (λ (l : List ℕ). paste l gathered_count_at (replicate 33 0) 33) (split t.gathered)
         ∙ replaced before (t.gathered.count ∷ t.gathered.stops) (after t.channels) (replicate 33 0) gathered_count_at 33 before-length (ap suc long.gathered)
         ∙ sym (split no_stops)
 
@@ -187,21 +189,21 @@ module _ {p : Printer} {v : Pending} {m : List ℕ} (h : Held p v m) where
   held-length = ap length h.same ∙ words-length v p h.long
 
   module _ {after : List ℕ} where
-    pub columns-copied : (length m ≡ register_count → after ≡ paste m column_count_at (drop gathered_count_at m) 33)
+    pub columns-copied : after ≡ paste m column_count_at (drop gathered_count_at m) 33
         → Held (with_stops p (stops_of p.stops.gathered p.stops.channels p.stops.gathered)) v after
     columns-copied e =
         record {
-          same = e held-length ∙ ap (λ (l : List ℕ). paste l column_count_at (drop gathered_count_at l) 33) h.same ∙ columns-replaced v p h.long;
+          same = e ∙ ap (λ (l : List ℕ). paste l column_count_at (drop gathered_count_at l) 33) h.same ∙ columns-replaced v p h.long;
           small = h.small;
           long = record { columns = h.long.gathered; channels = h.long.channels; counts = h.long.counts; gathered = h.long.gathered };
         }
 
-    pub channel-copied : (k n : ℕ) → k < 8 → n ≡ p.stops.gathered.count + 1 → (length m ≡ register_count → after ≡ paste m (channel_stops_at + 16 * k) (drop gathered_stops_at m) 16)
+    pub channel-copied : (k n : ℕ) → k < 8 → n ≡ p.stops.gathered.count + 1 → after ≡ paste m (channel_stops_at + 16 * k) (drop gathered_stops_at m) 16
         → Held (with_stops p (stops_of p.stops.columns (with_channel p.stops.channels k p.stops.gathered) p.stops.gathered)) v (set after (channel_counts_at + k) n)
     channel-copied k n i q e =
         record {
           same =
-              ap (λ (l : List ℕ). set l (channel_counts_at + k) n) (e held-length ∙ ap (λ (l : List ℕ). paste l (channel_stops_at + 16 * k) (drop gathered_stops_at l) 16) h.same)
+              ap (λ (l : List ℕ). set l (channel_counts_at + k) n) (e ∙ ap (λ (l : List ℕ). paste l (channel_stops_at + 16 * k) (drop gathered_stops_at l) 16) h.same)
               ∙ channel-replaced v p h.long k n i
               ∙ ap (λ (x : ℕ). words v (with_stops p (stops_of p.stops.columns (record { stops = paste p.stops.channels.stops (16 * k) p.stops.gathered.stops 16; counts = set p.stops.channels.counts k x; chosen = p.stops.channels.chosen }) p.stops.gathered))) q;
           small = h.small;

@@ -4,6 +4,7 @@ use mathlib.Core.Path.{◌≡◌, refl, sym, ap, ◌∙◌}
 use mathlib.Core.Bool.{Bool, true, false}
 use mathlib.Core.List.{List, [], ◌∷◌}
 use lib.Dec.{ltb, eqb}
+use Rattle.std.specs.Prelude.{Option, Some, None}
 use Rattle.printer.specs.Tools.{pick}
 use Rattle.printer.specs.Records.{feed_record, passed_record}
 use Rattle.printer.specs.Settings.{edge_of, down_of, held_in, channel_count, chosen_stops, with_wide_once}
@@ -11,9 +12,9 @@ use Rattle.printer.specs.Performing.{Event, done, inside, with_parts, perform}
 use Rattle.printer.specs.Deciding.{pages_of_line, feed_after_return, column_from, line_from, form_inside, vertical_events, vertical, control_events}
 use Rattle.printer.specs.declared.commands.Command.{Command}
 use Rattle.printer.specs.declared.commands.Control.{Control}
+use Rattle.printer.specs.declared.records.Record.{Record}
 use Rattle.printer.specs.declared.state.Printer.{Printer}
 use Rattle.printer.specs.declared.stops.Stop.{Stop}
-use Rattle.printer.specs.declared.units.Units.{Units}
 use Rattle.registers.specs.declared.pending.Pending.{Pending}
 use Rattle.registers.specs.Layout.{words}
 use Rattle.registers.specs.Held.{Held}
@@ -26,17 +27,17 @@ use Rattle.interpreter.proofs.Searches.{column_search, line_search, taken, count
 
 -- HT
 module _ (p : Printer) where
-  abbrev sought : Stop
+  abbrev sought : Option Stop
   sought = column_from p.settings p.place 1 (held_in p.stops.columns)
 
   module _ (b : ℕ) {r : Stepped} where
-    pub tab-done : (k : ℕ) (to : Units) → sought ≡ Stop.Found k to → r ≡ stepped (moved_to p to.0) []
+    pub tab-done : (s : Stop) → sought ≡ Some s → r ≡ stepped (moved_to p s.place.0) []
         → Outcome p (control_events p Control.HorizontalTab b) r
-    tab-done k to e o =
-        let f = taken _ _ 1 _ k to (sym (column_search p.settings p.place 1 _) ∙ e) in
-        rw e (whole p (done (Command.Control Control.HorizontalTab b) k) [] (o ∙ rw (counted f, f.position)) refl)
+    tab-done s e o =
+        let f = taken _ _ 1 _ s (sym (column_search p.settings p.place 1 _) ∙ e) in
+        rw e (whole p (done (Command.Control Control.HorizontalTab b) s.number) [] (o ∙ rw (counted f, f.position)) refl)
 
-    pub tab-passed : sought ≡ Stop.Missing → r ≡ stepped p (passed_record b 5 ∷ [])
+    pub tab-passed : sought ≡ None → r ≡ stepped p (passed_record b 5 ∷ [])
         → Outcome p (control_events p Control.HorizontalTab b) r
     tab-passed e o = rw e (passed_over p (Command.Control Control.HorizontalTab b) 5 o)
 
@@ -48,7 +49,7 @@ module _ (p : Printer) (b : ℕ) where
   abbrev edge : ℕ
   edge = edge_of p.settings
 
-  abbrev found : Stop
+  abbrev found : Option Stop
   found = line_from (down_of p.place) 1 (held_in (chosen_stops p.stops))
 
   -- SO ends, and another command is performed
@@ -77,36 +78,36 @@ module _ (p : Printer) (b : ℕ) where
       ∙ ap (λ (x : Bool). pick t (done vt 0 ∷ fed) (pick x (done vt 0 ∷ returned) (vertical_events p vt found))) f
 
   module _ {r : Stepped} where
-    pub stop-done : (k : ℕ) (to : Units) → found ≡ Stop.Found k to → ltb to.0 edge ≡ true
-        → r ≡ stepped (on_line_at p to.0) (feed_record p.settings.setup.resolution to.0 0 ∷ [])
+    pub stop-done : (s : Stop) → found ≡ Some s → ltb s.place.0 edge ≡ true
+        → r ≡ stepped (on_line_at p s.place.0) (feed_record p.settings.setup.resolution s.place.0 0 ∷ [])
         → Outcome p (vertical_events p vt found) r
-    stop-done k to e t o =
-        let f = taken _ _ 1 _ k to (sym (line_search (down_of p.place) 1 _) ∙ e) in
+    stop-done s e t o =
+        let f = taken _ _ 1 _ s (sym (line_search (down_of p.place) 1 _) ∙ e) in
         rw (e, t)
-        (whole p (done vt k) (feed_record p.settings.setup.resolution to.0 0 ∷ [])
+        (whole p (done vt s.number) (feed_record p.settings.setup.resolution s.place.0 0 ∷ [])
         (o ∙ rw (counted f, f.position)) (rw (counted f, f.position)))
 
   -- and what is done then
-  module _ {v : Pending} {after xs ys : List ℕ} {at end : ℕ} where
-    pub stop-below : (k : ℕ) (to : Units) → found ≡ Stop.Found k to → ltb to.0 edge ≡ false
-        → Did p v (form_inside vt) after xs at end ys → Did p v (vertical_events p vt found) after xs at end ys
-    stop-below k to e t d = rw (e, t) d
+  module _ {v : Pending} {after : List ℕ} {l : List Record} where
+    pub stop-below : (s : Stop) → found ≡ Some s → ltb s.place.0 edge ≡ false
+        → Did p v (form_inside vt) after l → Did p v (vertical_events p vt found) after l
+    stop-below s e t d = rw (e, t) d
 
-    pub stop-missing : found ≡ Stop.Missing → Did p v (form_inside vt) after xs at end ys
-        → Did p v (vertical_events p vt found) after xs at end ys
+    pub stop-missing : found ≡ None → Did p v (form_inside vt) after l
+        → Did p v (vertical_events p vt found) after l
     stop-missing e d = rw e d
 
-    pub as-form : Did ended v (inside Control.FormFeed 0 ∷ []) after xs at end ys → Did p v (form_inside vt) after xs at end ys
+    pub as-form : Did ended v (inside Control.FormFeed 0 ∷ []) after l → Did p v (form_inside vt) after l
     as-form d = silently-did (done vt 0) _ refl d
 
     module _ (e : eqb count 0 ≡ false) where
-      pub as-return : eqb (chosen_stops p.stops).count 0 ≡ true → Did ended v returned after xs at end ys
-          → Did p v (vertical p vt) after xs at end ys
+      pub as-return : eqb (chosen_stops p.stops).count 0 ≡ true → Did ended v returned after l
+          → Did p v (vertical p vt) after l
       as-return f d = rw (chosen e f) (silently-did (done vt 0) _ refl d)
 
-      pub among-stops : eqb (chosen_stops p.stops).count 0 ≡ false → Did p v (vertical_events p vt found) after xs at end ys
-          → Did p v (vertical p vt) after xs at end ys
+      pub among-stops : eqb (chosen_stops p.stops).count 0 ≡ false → Did p v (vertical_events p vt found) after l
+          → Did p v (vertical p vt) after l
       among-stops f d = rw (chosen e f) d
 
-    pub as_line : eqb count 0 ≡ true → Did ended v fed after xs at end ys → Did p v (vertical p vt) after xs at end ys
+    pub as_line : eqb count 0 ≡ true → Did ended v fed after l → Did p v (vertical p vt) after l
     as_line e d = rw (chosen e refl) (silently-did (done vt 0) _ refl d)

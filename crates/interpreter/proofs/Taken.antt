@@ -7,7 +7,7 @@ use native.Mathlib.Omega.{arith}
 use lib.Dec.{eqb}
 use lib.ListN.{length, take, get_or, set}
 use lib.Seq.{length-take-le}
-use Rattle.printer.specs.Units.{per_inch_across}
+use Rattle.printer.specs.Units.{per_inch_across, units}
 use Rattle.printer.specs.Records.{record_size, room_for_byte, letter_record, image_record}
 use Rattle.printer.specs.Settings.{advance_of}
 use Rattle.printer.specs.Performing.{column_part}
@@ -20,46 +20,45 @@ use Rattle.printer.specs.declared.settings.Pitch.{Pitch}
 use Rattle.printer.specs.declared.settings.Width.{Width}
 use Rattle.printer.specs.declared.state.Printer.{Printer}
 use Rattle.printer.specs.declared.units.Resolution.{Resolution}
+use Rattle.printer.specs.declared.units.Units.{Units}
 use Rattle.printer.proofs.Choices.{pick_elim}
-use Rattle.printer.proofs.Modes.{bytes_within}
+use Rattle.printer.proofs.Modes.{bytes_within, step_within}
 use Rattle.measures.specs.Exact.{packed}
+use Rattle.measures.specs.declared.rounding.Exact.{Exact}
 use Rattle.registers.specs.declared.pending.Pending.{Pending}
 use Rattle.registers.specs.Register.{across_at, right_at, dots_across_at, upper_prints_at, advance_at, advance_dots_at}
 use Rattle.registers.specs.Groups.{is_set, resolution_of}
 use Rattle.registers.specs.Layout.{laid, words}
 use Rattle.registers.proofs.Laws.{resolution_back}
 use Rattle.registers.proofs.Reading.{advance-held, advance-dots-held, upper-held}
-use Rattle.interpreter.specs.declared.steps.Stepping.{Stepping}
 use Rattle.interpreter.specs.Output.{Written}
-use Rattle.interpreter.specs.Series.{placed_all, Reached, columns_wait}
-use Rattle.interpreter.specs.Taking.{Current, Fits, Letters, RoomForEach, StepPromise, after_byte, TurnPromise}
+use Rattle.interpreter.specs.Series.{Formed, OnPaper, placed_all, Reached, columns_wait}
+use Rattle.interpreter.specs.Taking.{Current, Fits, Letters, RoomForEach, StepPromise, after_byte, TurnPromise, Ready, Turns}
 use Rattle.interpreter.proofs.Places.{across-held, right-held, across-stored}
-use Rattle.interpreter.proofs.SeriesLoop.{one_each, done-within}
+use Rattle.interpreter.proofs.SeriesLoop.{one_each, done-within, step_known}
 use Rattle.interpreter.proofs.Following.{AreRead, placed_like, some_columns, letters_read, columns_read}
 
-pub byte-taken : {p : Printer} {v : Pending} {input out m after : List ℕ} {back : Stepping} {left : ℕ}
-    → 0 < length input → room_for_byte ≤ length out → StepPromise p v (get_or input 0 0) back m out 0 after
-    → TurnPromise p v input out (record { waiting = back.waiting; read = 1; written = back.written; left = left }) m after
+pub byte-taken : {p : Printer} {v : Pending} {input out m after : List ℕ} {w : Waiting} {k : List Record} {written : ℕ}
+    → 0 < length input → room_for_byte ≤ length out → StepPromise p v (get_or input 0 0) w k m → Written out 0 k written after
+    → TurnPromise p v input out (after_byte w written) m after
 unfolding RoomForEach state_after records_over
-byte-taken {input = []} h k s = absurd (omega arith)
-byte-taken {input = b ∷ l} h k s =
-    record { within = omega arith; enough = (k, tt); same = s.same; waits = s.waits; wrote = rw append-nil s.wrote }
+byte-taken {input = []} h k s o = absurd (omega arith)
+byte-taken {input = b ∷ l} h k s o =
+    record { within = omega arith; enough = (k, tt); same = s.same; waits = s.waits; wrote = rw (append-nil, s.wrote) o }
 
 -- so a turn of one byte, whatever is waited for
-pub byte-turned : {w : Waiting} {input out m m' after : List ℕ} {back : Stepping} {allowance : ℕ}
-    → ((0 < length input) × (room_for_byte ≤ length out)) × (length input ≤ allowance)
-    → ((p : Printer) (v : Pending) → Current p v w m → StepPromise p v (get_or input 0 0) back m' out 0 after)
-    → ((p : Printer) (v : Pending) → Current p v w m → TurnPromise p v input out (after_byte back allowance) m' after)
-    × ((0 < 1) × (allowance - 1 + 1 ≡ allowance))
-byte-turned k f = (λ p v h. byte-taken k.0.0 k.0.1 (f p v h), (omega arith, omega arith))
+pub byte-turned : {w next : Waiting} {m input out m' after : List ℕ} {k : List Record} {written : ℕ} → Ready w m input out
+    → ((p : Printer) (v : Pending) → Current p v w m → StepPromise p v (get_or input 0 0) next k m') → Written out 0 k written after
+    → Turns w m input out (after_byte next written) m' after
+byte-turned r f o = record { promise = λ p v h. byte-taken r.some-input r.some-room (f p v h) o; some = omega arith }
 
 -- Bytes that follow each other
 
 -- bytes that the rules read so
-bytes_taken : {p q : Printer} {v : Pending} {input out m after : List ℕ} {n left : ℕ} {w : Waiting} {k : List Record}
+bytes_taken : {p q : Printer} {v : Pending} {input out m after : List ℕ} {n : ℕ} {w : Waiting} {k : List Record}
     → n ≤ length input → AreRead p (take n input) (length out) q k → m ≡ words v q → w ≡ q.waiting
     → Written out 0 k (record_size * n) after
-    → TurnPromise p v input out (record { waiting = w; read = n; written = record_size * n; left = left }) m after
+    → TurnPromise p v input out (record { waiting = w; read = n; written = record_size * n }) m after
 bytes_taken h r e f g =
     record { within = h; enough = r.enough; same = rw r.state e; waits = rw r.state f; wrote = rw r.records g }
 
@@ -94,19 +93,17 @@ module _ {p : Printer} {v : Pending} {w : Waiting} {m : List ℕ} (h : Current p
   unfolding laid
   dots-held = rw h.held.same
 
-  -- what makes the code safe
-  pub in-margins : get_or m across_at 0 ≤ get_or m right_at 0
-  in-margins = rw (across-held h.held, right-held h.held) h.accepted.place.1.0
-
-  pub right-most : (get_or m right_at 0 ≤ 28800) × (get_or m dots_across_at 0 ≤ 300)
-  right-most =
+  -- what makes the code safe; the dots of an inch across are those of the resolution that they are read as
+  pub on-paper : OnPaper m
+  on-paper =
       let s = h.accepted.settings in
       let e = right-held h.held in
-      (omega arith, rw dots-held (dots_few p.settings.setup.resolution))
-
-  -- the dots of an inch across are those of the resolution that they are read as
-  pub inch-known : per_inch_across (resolution_of (get_or m dots_across_at 0)) ≡ get_or m dots_across_at 0
-  inch-known = rw dots-held (ap per_inch_across (resolution_back p.settings.setup.resolution))
+      record {
+        place = rw (across-held h.held, e) h.accepted.place.1.0;
+        margin = omega arith;
+        few-dots = rw dots-held (dots_few p.settings.setup.resolution);
+        inch = rw dots-held (ap per_inch_across (resolution_back p.settings.setup.resolution));
+      }
 
   -- the advance in dots is the exact step of the advance
   pub advance-walks : get_or m advance_dots_at 0 ≡ packed (get_or m advance_at 0 * get_or m dots_across_at 0)
@@ -123,13 +120,37 @@ module _ {p : Printer} {v : Pending} {w : Waiting} {m : List ℕ} (h : Current p
       let b = rw z at h.accepted.waiting in
       (b.0, (b.1.1.0, b.1.1.1.0))
 
-  module _ {input out after : List ℕ} {n : ℕ} (left : ℕ) {r : Record} where
+  -- the series of letters and of image bytes
+
+  pub letters-formed : {r : Record} → r ≡ letter_record p.settings p.place 0 (advance_of p.settings)
+      → Formed m (record { first = r; step = record { 0 = get_or m advance_at 0 }; by = record { 0 = get_or m advance_dots_at 0 }; bytes = 1; part = 1 })
+  letters-formed e =
+      record {
+        moves = advances;
+        begins = (omega arith, omega arith);
+        fonts = rw e (omega (arith, h.typed.font));
+        exact = advance-walks;
+      }
+
+  pub image-formed : {mode : ImageMode} {k columns bytes : ℕ} {r : Record} {step : Units} {by : Exact} → w ≡ Waiting.ImageData mode k columns
+      → r ≡ image_record p.settings p.place 0 (column_part mode 1) (image_step mode) → step ≡ units (image_step mode) → bytes ≡ image_bytes mode
+      → by ≡ record { 0 = packed (step.0 * per_inch_across (resolution_of (get_or m dots_across_at 0))) }
+      → Formed m (record { first = r; step = step; by = by; bytes = bytes; part = k })
+  image-formed {mode} {step = step} e i f b s =
+      record {
+        moves = rw f (step_within mode).0;
+        begins = rw b (image-bounds e).1;
+        fonts = rw (i, b) (image_fonts mode);
+        exact = step_known step.0 s on-paper.inch;
+      }
+
+  module _ {input out after : List ℕ} {n : ℕ} {r : Record} where
     pub letters-taken : {columns done part : ℕ} → w ≡ Waiting.Nothing
         → Fits n 1 1 columns (length input) (length out) (get_or m across_at 0) (get_or m advance_at 0) (get_or m right_at 0)
         → Letters (is_set (get_or m upper_prints_at 0)) (take n input) → Reached done part n 1 1
         → r ≡ letter_record p.settings p.place 0 (advance_of p.settings)
         → Written out 0 (placed_all r (get_or m dots_across_at 0) (get_or m across_at 0) (get_or m advance_at 0) 1 1 (take n input)) (record_size * n) after
-        → TurnPromise p v input out (record { waiting = Waiting.Nothing; read = n; written = record_size * n; left = left })
+        → TurnPromise p v input out (record { waiting = Waiting.Nothing; read = n; written = record_size * n })
         (set m across_at (get_or m across_at 0 + done * get_or m advance_at 0)) after
     letters-taken e f l s k g =
         let c : length (take n input) ≡ n = length-take-le n input f.some-input in
@@ -145,7 +166,7 @@ module _ {p : Printer} {v : Pending} {w : Waiting} {m : List ℕ} (h : Current p
         → Fits n (image_bytes mode) k columns (length input) (length out) (get_or m across_at 0) (image_step mode) (get_or m right_at 0)
         → Reached done part n (image_bytes mode) k → r ≡ image_record p.settings p.place 0 (column_part mode 1) (image_step mode)
         → Written out 0 (placed_all r (get_or m dots_across_at 0) (get_or m across_at 0) (image_step mode) (image_bytes mode) k (take n input)) (record_size * n) after
-        → TurnPromise p v input out (record { waiting = columns_wait mode part (columns - done); read = n; written = record_size * n; left = left })
+        → TurnPromise p v input out (record { waiting = columns_wait mode part (columns - done); read = n; written = record_size * n })
         (set m across_at (get_or m across_at 0 + done * image_step mode)) after
     unfolding laid
     columns-taken {mode} {k} {columns} {done} {part} e f s i g =

@@ -33,10 +33,10 @@ ours_current o e f =
       accepted = o.accepted;
     }
 
-pub no-turn : {p : Printer} {v : Pending} {w : Waiting} {m : List ℕ} (input out : List ℕ) (left : ℕ) → Current p v w m
-    → TurnPromise p v input out (record { waiting = w; read = 0; written = 0; left = left }) m out
+pub no-turn : {p : Printer} {v : Pending} {w : Waiting} {m : List ℕ} (input out : List ℕ) → Current p v w m
+    → TurnPromise p v input out (record { waiting = w; read = 0; written = 0 }) m out
 unfolding RoomForEach state_after records_over
-no-turn input out left h =
+no-turn input out h =
     record { within = omega arith; enough = tt; same = h.held.same; waits = h.waits; wrote = none out 0 }
 
 room-more : (p : Printer) (l k : List ℕ) (room : ℕ) → RoomForEach p l room
@@ -66,7 +66,7 @@ module _ {p : Printer} {v : Pending} {input out m out₁ : List ℕ} {a : Turned
   current-after b h =
       ours_current (steps_ours p L (bytes_take a.read input b) (record { typed = h.typed; accepted = h.accepted })) t.same t.waits
 
-  module _ {b : Turned} {m₁ zs : List ℕ} (left : ℕ)
+  module _ {b : Turned} {m₁ zs : List ℕ}
       (u : TurnPromise Q v (take (length input - a.read) (drop a.read input)) (mid_of a.written (length out₁ - a.written) out₁) b m₁ zs) where
     rest : take (length input - a.read) (drop a.read input) ≡ drop a.read input
     rest = take_all (length input - a.read) (drop a.read input) (simp length-drop (omega arith))
@@ -88,7 +88,7 @@ module _ {p : Printer} {v : Pending} {input out m out₁ : List ℕ} {a : Turned
 
     pub joined :
         TurnPromise p v input out
-        (record { waiting = b.waiting; read = a.read + b.read; written = a.written + b.written; left = left }) m₁
+        (record { waiting = b.waiting; read = a.read + b.read; written = a.written + b.written }) m₁
         (put_mid a.written (length out₁ - a.written) out₁ zs)
     joined =
         record {

@@ -1,6 +1,6 @@
 -- The records of a series of bytes on a line. They stand in columns, of one byte or more, each a step further across than the one before: a letter
 -- is a column of one byte.
-use Rattle.std.specs.Prelude.{ℕ, suc, ◌+◌, ◌*◌, ◌-◌, ◌%◌, ◌≤◌, ◌<◌, ◌≡◌, true, List, [], ◌∷◌, eqb, take, get_or, set}
+use Rattle.std.specs.Prelude.{ℕ, suc, ◌+◌, ◌*◌, ◌-◌, ◌%◌, ◌≤◌, ◌<◌, ◌≡◌, true, List, [], ◌∷◌, eqb, length, take, get_or, set}
 use Rattle.printer.specs.Tools.{pick, Each}
 use Rattle.printer.specs.Units.{rounded, rest_word, per_inch_across}
 use Rattle.printer.specs.Records.{record_size}
@@ -12,6 +12,7 @@ use Rattle.registers.specs.Register.{across_at, right_at, dots_across_at}
 use Rattle.registers.specs.Groups.{resolution_of}
 use Rattle.framing.specs.Letters.{prints_from}
 use Rattle.interpreter.specs.declared.series.Placed.{Placed}
+use Rattle.interpreter.specs.declared.series.Series.{Series}
 use Rattle.interpreter.specs.declared.series.Spot.{Spot}
 use Rattle.interpreter.specs.Output.{Written}
 
@@ -88,29 +89,34 @@ columns_wait m k n = pick (eqb n 0) Waiting.Nothing (Waiting.ImageData m k n)
 
 -- A run of the loop
 
--- an exact place and an exact step are those of a place and a step in units
-pub record Walks (d across step first by : ℕ) : Type 0 where
-  pub place : first ≡ packed (across * d + 1800)
-  pub each : by ≡ packed (step * d)
+-- a series on registers: its columns lie apart, each has the byte that comes first, fonts are bytes, and the exact step is that of the one in units
+pub record Formed (m : List ℕ) (s : Series) : Type 0 where
+  pub moves : 0 < s.step.0
+  pub begins : (1 ≤ s.part) × (s.part ≤ s.bytes)
+  pub fonts : s.first.font + s.bytes ≤ 256
+  pub exact : s.by.0 ≡ packed (s.step.0 * get_or m dots_across_at 0)
 
--- what it needs of the registers, a record, the columns, and how many bytes there are at most, have input, allowance and room
-pub record Placeable (m : List ℕ) (v : Record) (step bytes k most input allowance room : ℕ) : Type 0 where
-  pub moves : 0 < step
-  pub first : (1 ≤ k) × (k ≤ bytes)
-  pub fonts : v.font + bytes ≤ 256
-  pub line : OnLine most bytes k (get_or m across_at 0) step (get_or m right_at 0)
-  pub paper : (get_or m right_at 0 ≤ 28800) × (get_or m dots_across_at 0 ≤ 300)
+-- registers whose place is within the right margin, which is on the paper, and whose dots of an inch are those of a resolution
+pub record OnPaper (m : List ℕ) : Type 0 where
+  pub place : get_or m across_at 0 ≤ get_or m right_at 0
+  pub margin : get_or m right_at 0 ≤ 28800
+  pub few-dots : get_or m dots_across_at 0 ≤ 300
   pub inch : per_inch_across (resolution_of (get_or m dots_across_at 0)) ≡ get_or m dots_across_at 0
-  pub read : (most ≤ input) × (most ≤ allowance)
-  pub written : record_size * most ≤ room
+
+-- what the loop needs: of so many bytes at most, and of the room
+pub record Placeable (m : List ℕ) (s : Series) (most room : ℕ) : Type 0 where
+  pub formed : Formed m s
+  pub paper : OnPaper m
+  pub line : OnLine most s.bytes s.part (get_or m across_at 0) s.step.0 (get_or m right_at 0)
+  pub fits : record_size * most ≤ room
 
 -- what it leaves: some bytes are placed, all of which print
-pub record Placing
-    (m : List ℕ) (v : Record) (from step bytes k most : ℕ) (input out : List ℕ) (allowance : ℕ)
-    (r : Placed) (after wrote : List ℕ) : Type 0 where
-  pub few : r.count ≤ most
+pub record Placing (m : List ℕ) (s : Series) (from : ℕ) (input out : List ℕ) (r : Placed) (after wrote : List ℕ) : Type 0 where
+  pub few : r.count ≤ length input
   pub printed : AllPrint from (take r.count input)
-  pub reached : Reached r.done r.part r.count bytes k
-  pub moved : after ≡ set m across_at (get_or m across_at 0 + r.done * step)
-  pub records : Written out 0 (placed_all v (get_or m dots_across_at 0) (get_or m across_at 0) step bytes k (take r.count input)) (record_size * r.count) wrote
-  pub left : r.left + r.count ≡ allowance
+  pub reached : Reached r.done r.part r.count s.bytes s.part
+  pub moved : after ≡ set m across_at (get_or m across_at 0 + r.done * s.step.0)
+  pub records :
+      Written out 0
+      (placed_all s.first (get_or m dots_across_at 0) (get_or m across_at 0) s.step.0 s.bytes s.part (take r.count input))
+      (record_size * r.count) wrote

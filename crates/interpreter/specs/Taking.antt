@@ -1,5 +1,5 @@
 -- What a byte's step, a turn and the loop of a reading call promise: of every printer that the registers hold.
-use Rattle.std.specs.Prelude.{ℕ, ◌+◌, ◌*◌, ◌-◌, ◌≤◌, ◌≡◌, Bool, true, List, [], ◌∷◌, length, take}
+use Rattle.std.specs.Prelude.{ℕ, ◌+◌, ◌*◌, ◌-◌, ◌≤◌, ◌<◌, ◌≡◌, Bool, true, Option, List, [], ◌∷◌, length, take}
 use Rattle.printer.specs.Tools.{Each}
 use Rattle.printer.specs.Accepted.{Typed, Accepted}
 use Rattle.printer.specs.Calls.{call_of, report_of, output_of}
@@ -7,6 +7,7 @@ use Rattle.printer.specs.Framing.{is_letter}
 use Rattle.printer.specs.Records.{record_size, room_for_byte}
 use Rattle.printer.specs.Steps.{step_of, step_records, state_after, records_over}
 use Rattle.printer.specs.declared.commands.Waiting.{Waiting}
+use Rattle.printer.specs.declared.records.Record.{Record}
 use Rattle.printer.specs.declared.state.Printer.{Printer}
 use Rattle.registers.specs.declared.pending.Pending.{Pending}
 use Rattle.registers.specs.Layout.{words}
@@ -49,19 +50,18 @@ unfoldable pub RoomForEach : Printer → (bytes : List ℕ) → (room : ℕ) →
 RoomForEach p [] room = Unit
 RoomForEach p (b ∷ l) room = (room_for_byte ≤ room) × RoomForEach (step_of p b) l (room - record_size * length (step_records p b))
 
-abbrev pub stepping : Waiting → (written : ℕ) → Stepping
-stepping w written = record { waiting = w; written = written }
+abbrev pub stepping : Waiting → Option Record → Stepping
+stepping w r = record { waiting = w; wrote = r }
 
--- a byte's step: the registers and the output after it
-pub record StepPromise
-    (p : Printer) (v : Pending) (b : ℕ) (back : Stepping) (m xs : List ℕ) (at : ℕ) (ys : List ℕ) : Type 0 where
+-- a byte's step: what is waited for, the records, and the registers after it
+pub record StepPromise (p : Printer) (v : Pending) (b : ℕ) (next : Waiting) (k : List Record) (m : List ℕ) : Type 0 where
   pub same : m ≡ words v (step_of p b)
-  pub waits : back.waiting ≡ (step_of p b).waiting
-  pub wrote : Written xs at (step_records p b) back.written ys
+  pub waits : next ≡ (step_of p b).waiting
+  pub wrote : step_records p b ≡ k
 
--- a turn of one byte, by its step
-abbrev pub after_byte : Stepping → (allowance : ℕ) → Turned
-after_byte s allowance = record { waiting = s.waiting; read = 1; written = s.written; left = allowance - 1 }
+-- a turn of one byte
+abbrev pub after_byte : Waiting → (written : ℕ) → Turned
+after_byte w written = record { waiting = w; read = 1; written = written }
 
 -- a turn: some bytes of the input
 pub record TurnPromise (p : Printer) (v : Pending) (input out : List ℕ) (back : Turned) (m after : List ℕ) : Type 0 where
@@ -70,6 +70,17 @@ pub record TurnPromise (p : Printer) (v : Pending) (input out : List ℕ) (back 
   pub same : m ≡ words v (state_after p (take back.read input))
   pub waits : back.waiting ≡ (state_after p (take back.read input)).waiting
   pub wrote : Written out 0 (records_over p (take back.read input)) back.written after
+
+-- what a turn is given: registers of some state of ours, some input, and room for a byte's records
+pub record Ready (w : Waiting) (m input out : List ℕ) : Type 0 where
+  pub kept : Kept w m
+  pub some-input : 0 < length input
+  pub some-room : room_for_byte ≤ length out
+
+-- and what it gives: some bytes are read, and the promise holds of every state that the registers are of
+pub record Turns (w : Waiting) (m input out : List ℕ) (back : Turned) (m' after : List ℕ) : Type 0 where
+  pub promise : (p : Printer) (v : Pending) → Current p v w m → TurnPromise p v input out back m' after
+  pub some : 0 < back.read
 
 -- the loop: what the rules come to, and the state after it
 pub record RunPromise

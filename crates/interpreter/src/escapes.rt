@@ -1,21 +1,22 @@
 // The escapes that change settings: without an argument, and with one.
-ghost use Rattle.std.specs.Prelude.{◌≡◌, [], ◌∷◌, true, false, ◌+◌, ◌≤◌, length};
-ghost use Rattle.printer.specs.Tools.{pick};
-ghost use Rattle.printer.specs.Records.{record_size};
-ghost use Rattle.printer.specs.Escapes.{switches, switched_on, countries, mode_row, parameter_row, choice_row, look_settings};
-ghost use Rattle.printer.specs.Performing.{done};
+ghost use Rattle.std.specs.Prelude.{◌≡◌, ℕ, Bool, [], ◌∷◌, true, refl, option_to_list};
+ghost use Rattle.printer.specs.Escapes.{switches, switched_on, mode_row, parameter_row, choice_row, look_settings};
+ghost use Rattle.printer.specs.Codes.{shows};
+ghost use Rattle.printer.specs.Performing.{done, perform, records_of};
 ghost use Rattle.printer.specs.Deciding.{ranged};
 ghost use Rattle.printer.specs.declared.commands.Command.{Command};
 ghost use Rattle.printer.specs.declared.commands.Look.{Look};
 ghost use Rattle.printer.specs.declared.settings.Settings.{Settings};
 ghost use Rattle.printer.specs.declared.state.Printer.{Printer};
-ghost use Rattle.interpreter.specs.Doing.{Sets, Does};
+ghost use Rattle.interpreter.specs.Doing.{Leaves, Sets, Does};
 
 use crate::master::master;
-use crate::output::write_passed;
-use crate::settings::{double_width, proportional, script, store_width};
+use crate::output::{Reason, passed_record};
+use crate::settings::{double_width, script, show, show_width, store_width};
 use framing::codes::{choice_code, parameter_code};
+use measures::countries;
 use printer::commands::{Choice, Mode, Parameter, Switch};
+use printer::records::Record;
 use registers::derived::{Shown, store_shown};
 use registers::groups::{flag, pitch_number};
 use registers::{COUNT, COUNTRY, DRAFT, FONT, LINE, PITCH, SKIP, SPACING, UPPER_PRINTS};
@@ -38,9 +39,9 @@ pub(crate) fn switch(m: &mut [u32; COUNT], w: Switch)
     ensures { Sets m.old m.new (λ (s : Settings). look_settings s (Look.Switch w)) }
 {
     match w {
-        Switch::Bold(on) => store_shown(m, Shown::Bold, flag(on)),
-        Switch::DoubleStrike(on) => store_shown(m, Shown::DoubleStrike, flag(on)),
-        Switch::Italic(on) => store_shown(m, Shown::Italic, flag(on)),
+        Switch::Bold(on) => show(m, Shown::Bold, on),
+        Switch::DoubleStrike(on) => show(m, Shown::DoubleStrike, on),
+        Switch::Italic(on) => show(m, Shown::Italic, on),
         Switch::NoScript => script(m, false, false),
     }
 }
@@ -49,121 +50,115 @@ pub(crate) fn switch(m: &mut [u32; COUNT], w: Switch)
 fn switches(n: u8) -> bool
     ensures { result ≡ switches n }
 {
-    (n <= 1) | ((0x30 <= n) & (n <= 0x31))
+    matches!(n, 0..=1 | 0x30..=0x31)
 }
 
 // Of these, 1 and 31h switch on.
 fn switched_on(n: u8) -> bool
     ensures { result ≡ switched_on n }
 {
-    (n == 1) | (n == 0x31)
+    matches!(n, 1 | 0x31)
 }
 
-// 0 and 30h switch off.
-fn switched_off(n: u8) -> bool
-    ensures { result ≡ pick (switched_on n) false true }
-{
-    !switched_on(n)
+// The escapes with one argument that change a setting, and write nothing where they do.
+pub(crate) trait Setting: Copy {
+    ghost command: { Self → (argument : ℕ) → Command };
+
+    ghost taken: { Self → (argument : ℕ) → Bool };
+
+    fn takes(self, n: u8) -> bool
+        ensures { result ≡ taken self n };
+
+    fn set(self, m: &mut [u32; COUNT], n: u8)
+        ensures { Leaves m.old m.new (λ (p : Printer). perform p (done (command self n) 0)) };
+
+    // The byte that its NO bears.
+    fn code(self) -> u8
+        ensures { (n : ℕ) → result ≡ shows (command self n) };
+
+    ghost silent: { (c : Self) (n : ℕ) (p : Printer) → records_of p (done (command c n) 0) ≡ [] };
 }
 
-// 0 to 13, 40h.
-fn countries(n: u8) -> bool
-    ensures { result ≡ countries n }
-{
-    (n <= 13) | (n == 0x40)
-}
+impl Setting for Parameter {
+    ghost command = { Command.Parameter };
 
-// Whether an escape takes its argument.
-fn parameter_takes(c: Parameter, n: u8) -> bool
-    ensures { result ≡ (parameter_row c).takes n }
-{
-    match c {
-        Parameter::Line180ths => true,
-        Parameter::Line60ths => n <= 85,
-        Parameter::Line360ths => true,
-        Parameter::Spacing => true,
-        Parameter::Proportional => switches(n),
-        Parameter::Quality => switches(n),
-        Parameter::DoubleWidth => switches(n),
-        Parameter::Master => true,
+    ghost taken = { λ c n. (parameter_row c).takes n };
+
+    ghost silent = { λ c n p. refl };
+
+    fn takes(self, n: u8) -> bool {
+        match self {
+            Parameter::Line60ths => n <= 85,
+            Parameter::Proportional | Parameter::Quality | Parameter::DoubleWidth => switches(n),
+            Parameter::Line180ths
+            | Parameter::Line360ths
+            | Parameter::Spacing
+            | Parameter::Master => true,
+        }
     }
-}
 
-// And then the setting that it changes.
-fn set_parameter(m: &mut [u32; COUNT], c: Parameter, n: u8)
-    ensures { Sets m.old m.new (λ (s : Settings). (parameter_row c).sets s n) }
-{
-    match c {
-        Parameter::Line180ths => m[LINE] = 20 * n as u32,
-        Parameter::Line60ths => m[LINE] = 60 * n as u32,
-        Parameter::Line360ths => m[LINE] = 10 * n as u32,
-        Parameter::Spacing => store_width(m, SPACING, (n % 128) as u32),
-        Parameter::Proportional => proportional(m, switched_on(n)),
-        Parameter::Quality => m[DRAFT] = flag(switched_off(n)),
-        Parameter::DoubleWidth => double_width(m, switched_on(n)),
-        Parameter::Master => master(m, n),
+    fn set(self, m: &mut [u32; COUNT], n: u8) {
+        match self {
+            Parameter::Line180ths => m[LINE] = 20 * n as u32,
+            Parameter::Line60ths => m[LINE] = 60 * n as u32,
+            Parameter::Line360ths => m[LINE] = 10 * n as u32,
+            Parameter::Spacing => store_width(m, SPACING, (n % 128) as u32),
+            Parameter::Proportional => show_width(m, Shown::Proportional, switched_on(n)),
+            Parameter::Quality => m[DRAFT] = flag(!switched_on(n)),
+            Parameter::DoubleWidth => double_width(m, switched_on(n)),
+            Parameter::Master => master(m, n),
+        }
     }
-}
 
-// The same for those that only show on a letter's record.
-fn choice_takes(c: Choice, n: u8) -> bool
-    ensures { result ≡ (choice_row c).takes n }
-{
-    match c {
-        Choice::Script => switches(n),
-        Choice::Underline => switches(n),
-        Choice::DoubleHeight => switches(n),
-        Choice::Outline => n <= 3,
-        Choice::CodeTable => n <= 1,
-        Choice::Font => true,
-        Choice::Country => countries(n),
-        Choice::Download => switches(n),
+    fn code(self) -> u8 {
+        parameter_code(self)
     }
-}
-
-fn set_choice(m: &mut [u32; COUNT], c: Choice, n: u8)
-    ensures { Sets m.old m.new (λ (s : Settings). look_settings s (Look.Choice c n)) }
-{
-    match c {
-        Choice::Script => script(m, switched_off(n), switched_on(n)),
-        Choice::Underline => store_shown(m, Shown::Underline, flag(switched_on(n))),
-        Choice::DoubleHeight => store_shown(m, Shown::DoubleHeight, flag(switched_on(n))),
-        Choice::Outline => store_shown(m, Shown::Outline, n as u32),
-        Choice::CodeTable => store_shown(m, Shown::ItalicTable, flag(n == 0)),
-        Choice::Font => m[FONT] = n as u32,
-        Choice::Country => m[COUNTRY] = n as u32,
-        Choice::Download => store_shown(m, Shown::Download, flag(switched_on(n))),
-    }
-}
-
-// The escapes with one argument that change a setting.
-pub(crate) fn parameter(
-    m: &mut [u32; COUNT],
-    c: Parameter,
-    n: u8,
-    out: &mut [u8],
-    at: usize,
-) -> usize
-    requires { at + record_size ≤ length out.old }
-    ensures { Does (λ (p : Printer). ranged ((parameter_row c).takes n) (Command.Parameter c n) (done (Command.Parameter c n) 0) ∷ [])
-        m.old m.new out.old at result out.new }
-{
-    if parameter_takes(c, n) {
-        set_parameter(m, c, n);
-        return at;
-    }
-    write_passed(out, at, parameter_code(c), 2)
 }
 
 // Those that only show on a letter's record.
-pub(crate) fn choice(m: &mut [u32; COUNT], c: Choice, n: u8, out: &mut [u8], at: usize) -> usize
-    requires { at + record_size ≤ length out.old }
-    ensures { Does (λ (p : Printer). ranged ((choice_row c).takes n) (Command.Look (Look.Choice c n)) (done (Command.Look (Look.Choice c n)) 0) ∷ [])
-        m.old m.new out.old at result out.new }
-{
-    if choice_takes(c, n) {
-        set_choice(m, c, n);
-        return at;
+impl Setting for Choice {
+    ghost command = { λ c n. Command.Look (Look.Choice c n) };
+
+    ghost taken = { λ c n. (choice_row c).takes n };
+
+    ghost silent = { λ c n p. refl };
+
+    fn takes(self, n: u8) -> bool {
+        match self {
+            Choice::Script | Choice::Underline | Choice::DoubleHeight | Choice::Download =>
+                switches(n),
+            Choice::Outline => n <= 3,
+            Choice::CodeTable => n <= 1,
+            Choice::Font => true,
+            Choice::Country => countries::named(n),
+        }
     }
-    write_passed(out, at, choice_code(c), 2)
+
+    fn set(self, m: &mut [u32; COUNT], n: u8) {
+        match self {
+            Choice::Script => script(m, !switched_on(n), switched_on(n)),
+            Choice::Underline => show(m, Shown::Underline, switched_on(n)),
+            Choice::DoubleHeight => show(m, Shown::DoubleHeight, switched_on(n)),
+            Choice::Outline => store_shown(m, Shown::Outline, n as u32),
+            Choice::CodeTable => show(m, Shown::ItalicTable, n == 0),
+            Choice::Font => m[FONT] = n as u32,
+            Choice::Country => m[COUNTRY] = n as u32,
+            Choice::Download => show(m, Shown::Download, switched_on(n)),
+        }
+    }
+
+    fn code(self) -> u8 {
+        choice_code(self)
+    }
+}
+
+// Such an escape with its argument.
+pub(crate) fn argument<S: Setting>(m: &mut [u32; COUNT], c: S, n: u8) -> Option<Record>
+    ensures { Does (λ (p : Printer). ranged (S.taken c n) (S.command c n) (done (S.command c n) 0) ∷ []) m.old m.new (option_to_list result) }
+{
+    if c.takes(n) {
+        c.set(m, n);
+        return None;
+    }
+    Some(passed_record(c.code(), Reason::NotAllowed))
 }

@@ -33,15 +33,13 @@ use reading::run;
 use registers::COUNT;
 use registers::pending::{pending_of, store_pending};
 use registers::power_on::{clear_channels, power_on};
-use registers::stores::whole;
 
 // Stores the power-on state, and gives an answer.
 fn started(m: &mut [u32; COUNT], answer: Answer, setup: Setup) -> Answer
     ensures { (result ≡ answer) × (m.new ≡ registers_of (power_on setup)) }
 {
-    let n = whole(&*m);
-    clear_channels(&mut *m);
-    power_on(&mut *m, setup);
+    clear_channels(m);
+    power_on(m, setup);
     store_pending(m, pending_of(Waiting::Nothing));
     answer
 }
@@ -61,19 +59,14 @@ pub fn read(m: &mut [u32; COUNT], input: &[u8], allowance: usize, out: &mut [u8]
     ensures { ReadsRegisters m.old input.now allowance out.old result
         m.new out.new }
 {
-    let n = whole(&*m);
-    let examined = examine(&*m);
-    let waiting = examined.waiting;
-    if examined.accepted {
-        let ran = run(waiting, &mut *m, input, allowance, out);
-        let next = ran.waiting;
-        store_pending(m, pending_of(next));
-        ran.report
-    } else {
-        Report {
+    let Some(waiting) = examine(m) else {
+        return Report {
             answer: Answer::StateRefused,
             read: 0,
             written: 0,
-        }
-    }
+        };
+    };
+    let ran = run(waiting, m, input, allowance, out);
+    store_pending(m, pending_of(ran.waiting));
+    ran.report
 }

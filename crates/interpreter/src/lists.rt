@@ -1,7 +1,5 @@
 // ESC D, ESC B and ESC b: the lists that set tab stops.
-ghost use Rattle.std.specs.Prelude.{◌≡◌, true, [], ◌∷◌, ◌+◌, ◌*◌, ◌<◌, ◌≤◌, leb, ltb, length, drop, set};
-ghost use Rattle.std.proofs.Math.Seq.{paste};
-ghost use Rattle.printer.specs.Records.{record_size};
+ghost use Rattle.std.specs.Prelude.{◌≡◌, true, [], ◌∷◌, ◌+◌, ◌<◌, ◌≤◌, leb, ltb, set, option_to_list};
 ghost use Rattle.printer.specs.Tools.{both, holds};
 ghost use Rattle.printer.specs.PowerOn.{no_stops};
 ghost use Rattle.printer.specs.Performing.{with_parts, stops_of, gathering, stop_of, with_channel, list_ended};
@@ -12,17 +10,18 @@ ghost use Rattle.printer.specs.declared.commands.Listing.{Listing};
 ghost use Rattle.printer.specs.declared.commands.ListPart.{ListPart};
 ghost use Rattle.printer.specs.declared.state.Printer.{Printer};
 ghost use Rattle.registers.specs.declared.pending.Pending.{Pending};
-ghost use Rattle.registers.specs.Register.{column_count_at, gathered_count_at, gathered_stops_at, channel_stops_at, register_count};
+ghost use Rattle.registers.specs.Register.{gathered_count_at, gathered_stops_at};
 ghost use Rattle.registers.specs.Layout.{words};
 ghost use Rattle.registers.specs.Held.{Held};
 ghost use Rattle.interpreter.specs.Doing.{Leaves, Does};
 ghost use Rattle.interpreter.specs.Gathering.{Gathered};
 ghost use Rattle.interpreter.specs.Searching.{column_at};
 
-use crate::output::write_passed;
+use crate::output::{Reason, passed_record};
 use crate::positions::column_position;
 use measures::{paper, stops};
 use printer::commands::Target;
+use printer::records::Record;
 use printer::settings::{Margins, Settings};
 use printer::stops::TabStops;
 use printer::units::Units;
@@ -39,53 +38,21 @@ const LIST: usize = TabStops::ROOM + 1;
 pub(crate) fn open_list(m: &mut [u32; COUNT])
     ensures { Leaves m.old m.new (λ (p : Printer). with_parts p p.settings p.place (gathering p.stops no_stops)) }
 {
-    let mut i: usize = 0;
-    while i < LIST {
-        m[GATHERED_COUNT + i] = 0;
-        i += 1;
-    }
+    m[GATHERED_COUNT..GATHERED_COUNT + LIST].fill(0);
 }
 
-// The gathered list is copied over that of the columns.
-fn copy_columns(m: &mut [u32; COUNT])
-    ensures { length m.old ≡ register_count → m.new ≡ paste m.old column_count_at (drop gathered_count_at m.old) 33 }
-{
-    let mut i: usize = 0;
-    while i < LIST {
-        m[COLUMN_COUNT + i] = m[GATHERED_COUNT + i];
-        i += 1;
-    }
-}
-
-// The gathered stops are copied to the places of a channel.
-fn copy_lines(m: &mut [u32; COUNT], channel: usize)
-    requires { channel < 8 }
-    ensures { length m.old ≡ register_count → m.new ≡ paste m.old (channel_stops_at + 16 * channel) (drop gathered_stops_at m.old) 16 }
-{
-    let to = CHANNEL_STOPS + 16 * channel;
-    let mut i: usize = 0;
-    while i < 16 {
-        m[to + i] = m[GATHERED_STOPS + i];
-        i += 1;
-    }
-}
-
-// The count of a channel that holds so many stops; there are at most sixteen.
-fn set_count(n: u32) -> u32
-    ensures { n ≤ 16 → result ≡ n + 1 }
-{
-    if n < 16 { n + 1 } else { 17 }
-}
-
-// The gathered list sets a channel; there are eight.
+// The gathered list sets a channel; there are eight, and of sixteen stops each. The count of a channel that was set is one more than its stops.
 fn set_channel(m: &mut [u32; COUNT], c: u8)
     ensures { (p : Printer) (v : Pending) → Held p v m.old → c ≤ 7 → p.stops.gathered.count ≤ 16
         → Held (with_parts p p.settings p.place (stops_of p.stops.columns (with_channel p.stops.channels c p.stops.gathered) p.stops.gathered)) v m.new }
 {
     let channel = (c % 8) as usize;
-    let count = set_count(m[GATHERED_COUNT]);
-    copy_lines(&mut *m, channel);
-    m[CHANNEL_COUNTS + channel] = count;
+    let held = m[GATHERED_COUNT].min(16);
+    m.copy_within(
+        GATHERED_STOPS..GATHERED_STOPS + 16,
+        CHANNEL_STOPS + 16 * channel,
+    );
+    m[CHANNEL_COUNTS + channel] = held + 1;
 }
 
 // The end of a list: it replaces the stops in force, and is emptied.
@@ -95,7 +62,7 @@ pub(crate) fn end_list(m: &mut [u32; COUNT], k: Target)
 {
     match k {
         Target::Columns => {
-            copy_columns(&mut *m);
+            m.copy_within(GATHERED_COUNT..GATHERED_COUNT + LIST, COLUMN_COUNT);
             open_list(m);
         }
         Target::Channel(c) => {
@@ -126,7 +93,7 @@ fn stop_fits(s: Settings, width: Units, k: Target, b: u8) -> bool
     let margins = s.margins;
     match k {
         Target::Columns => column_fits(margins, width, b),
-        Target::Channel(_) => line_fits(stops::stop_of(s, k, b), paper::edge(s)),
+        Target::Channel(_) => line_fits(stops::stop_of(s.paper.line, k, b), paper::edge(s.paper)),
     }
 }
 
@@ -148,29 +115,27 @@ fn add_stop(m: &mut [u32; COUNT], count: u32, stop: u32)
 }
 
 // A byte of a list: one more stop, or passed over.
-pub(crate) fn list_byte(m: &mut [u32; COUNT], k: Target, b: u8, out: &mut [u8], at: usize) -> usize
-    requires { at + record_size ≤ length out.old }
-    ensures { Does (λ (p : Printer). attempt p (Command.List (Listing.Sets k) (ListPart.Byte b)) 3 ∷ []) m.old m.new out.old at result out.new }
+pub(crate) fn list_byte(m: &mut [u32; COUNT], k: Target, b: u8) -> Option<Record>
+    ensures { Does (λ (p : Printer). attempt p (Command.List (Listing.Sets k) (ListPart.Byte b)) 3 ∷ []) m.old m.new (option_to_list result) }
 {
     let s = settings_in(&*m);
     let count = m[GATHERED_COUNT];
     let width = Units(m[COLUMN_WIDTH]);
     let allowed = stop_allowed(s, width, count, k, b);
     if allowed {
-        add_stop(m, count, stops::stop_of(s, k, b) as u32);
-        return at;
+        add_stop(m, count, stops::stop_of(s.paper.line, k, b) as u32);
+        return None;
     }
-    write_passed(out, at, b, 3)
+    Some(passed_record(b, Reason::PastLimits))
 }
 
 // ESC /: the channel that VT uses.
-pub(crate) fn choose(m: &mut [u32; COUNT], n: u8, out: &mut [u8], at: usize) -> usize
-    requires { at + record_size ≤ length out.old }
-    ensures { Does (λ (p : Printer). attempt p (Command.Channel n) 2 ∷ []) m.old m.new out.old at result out.new }
+pub(crate) fn choose(m: &mut [u32; COUNT], n: u8) -> Option<Record>
+    ensures { Does (λ (p : Printer). attempt p (Command.Channel n) 2 ∷ []) m.old m.new (option_to_list result) }
 {
     if n <= 7 {
         m[CHOSEN] = n as u32;
-        return at;
+        return None;
     }
-    write_passed(out, at, b'/', 2)
+    Some(passed_record(b'/', Reason::NotAllowed))
 }

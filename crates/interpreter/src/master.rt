@@ -9,10 +9,10 @@ ghost use Rattle.registers.specs.Keeping.{shown_stored};
 ghost use Rattle.interpreter.specs.Doing.{Sets};
 ghost use Rattle.interpreter.specs.Storing.{master_width_in, master_emphasis_in};
 
-use crate::settings::double;
+use crate::settings::{double, show};
 use printer::settings::Pitch;
-use registers::derived::{Shown, keep_widths, store_shown};
-use registers::groups::{flag, pitch_number};
+use registers::derived::{Shown, keep_widths};
+use registers::groups::pitch_number;
 use registers::{COUNT, PITCH};
 
 // Whether the bit of value k is set.
@@ -27,7 +27,7 @@ fn store_bit(m: &mut [u32; COUNT], s: Shown, n: u8, k: u8)
     requires { 1 ≤ k }
     ensures { m.new ≡ shown_stored m.old s (flag (bit n k)) }
 {
-    store_shown(m, s, flag(bit(n, k)));
+    show(m, s, bit(n, k));
 }
 
 fn master_pitch(twelve: bool) -> Pitch

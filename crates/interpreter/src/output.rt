@@ -1,10 +1,10 @@
-// Records written into the output.
-ghost use Rattle.std.specs.Prelude.{◌≡◌, [], ◌∷◌, ◌+◌, ◌≤◌, length};
+// Records, and their bytes written into the output.
+ghost use Rattle.std.specs.Prelude.{◌≡◌, [], ◌∷◌, ◌+◌, ◌≤◌, length, option_to_list};
 ghost use Rattle.printer.specs.Records.{record_size, plain_record, passed_record, feed_record, clear_record};
 ghost use Rattle.printer.specs.declared.state.Printer.{Printer};
 ghost use Rattle.registers.specs.declared.pending.Pending.{Pending};
 ghost use Rattle.registers.specs.Held.{Held};
-ghost use Rattle.interpreter.specs.Output.{Written};
+ghost use Rattle.interpreter.specs.Output.{Written, reason_number};
 
 use measures::encoding::encoded;
 use measures::rounding;
@@ -34,6 +34,17 @@ pub(crate) fn write_record(out: &mut [u8], at: usize, r: Record) -> usize
     end
 }
 
+// Writes a record from `at`, if there is one, and gives the place after it.
+pub(crate) fn write_any(out: &mut [u8], at: usize, r: Option<Record>) -> usize
+    requires { at + record_size ≤ length out.old }
+    ensures { Written out.old at (option_to_list r) result out.new }
+{
+    match r {
+        Some(r) => write_record(out, at, r),
+        None => at,
+    }
+}
+
 // A record with no place across, font, country or advance: LN, CL, NO.
 pub(crate) fn plain_record(mark: Mark, row: Dots, byte: u8, style: u16) -> Record
     ensures { result ≡ plain_record mark row byte style }
@@ -51,39 +62,36 @@ pub(crate) fn plain_record(mark: Mark, row: Dots, byte: u8, style: u16) -> Recor
     }
 }
 
+// Why a byte is passed over, by the number that its record bears.
+#[derive(Clone, Copy)]
+pub(crate) enum Reason {
+    Unlisted = 1,
+    NotAllowed = 2,
+    PastLimits = 3,
+    DoesNotFit = 4,
+    NoStop = 5,
+}
+
 // NO: a byte passed over, and the reason.
-pub(crate) fn write_passed(out: &mut [u8], at: usize, b: u8, reason: u16) -> usize
-    requires { at + record_size ≤ length out.old }
-    ensures { Written out.old at (passed_record b reason ∷ []) result out.new }
+pub(crate) fn passed_record(b: u8, reason: Reason) -> Record
+    ensures { result ≡ passed_record b (reason_number reason) }
 {
-    write_record(out, at, plain_record(Mark::No, Dots(0), b, reason))
+    plain_record(Mark::No, Dots(0), b, reason as u16)
 }
 
 // CL.
-pub(crate) fn write_clear(out: &mut [u8], at: usize) -> usize
-    requires { at + record_size ≤ length out.old }
-    ensures { Written out.old at (clear_record ∷ []) result out.new }
+pub(crate) fn clear_record() -> Record
+    ensures { result ≡ clear_record }
 {
-    write_record(out, at, plain_record(Mark::Cl, Dots(0), 0, 0))
+    plain_record(Mark::Cl, Dots(0), 0, 0)
 }
 
 // LN: a line fed to a place down, and the pages turned.
-pub(crate) fn write_feed(
-    m: &[u32; COUNT],
-    down: Units,
-    pages: u8,
-    out: &mut [u8],
-    at: usize,
-) -> usize
-    requires { at + record_size ≤ length out.old }
+pub(crate) fn feed_record(m: &[u32; COUNT], down: Units, pages: u8) -> Record
     ensures { (p : Printer) (v : Pending) → Held p v m.now
-        → Written out.old at (feed_record p.settings.setup.resolution down.0 pages ∷ []) result out.new }
+        → result ≡ feed_record p.settings.setup.resolution down.0 pages }
 {
     let setup = setup_in(m);
     let resolution = setup.resolution;
-    write_record(
-        out,
-        at,
-        plain_record(Mark::Ln, rounding::row(resolution, down), pages, 0),
-    )
+    plain_record(Mark::Ln, rounding::row(resolution, down), pages, 0)
 }

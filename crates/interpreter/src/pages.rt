@@ -1,8 +1,7 @@
 // Perforation skip, page length and ESC @.
-ghost use Rattle.std.specs.Prelude.{◌≡◌, [], ◌∷◌, suc, ◌+◌, ◌*◌, ◌≤◌, length};
+ghost use Rattle.std.specs.Prelude.{◌≡◌, [], ◌∷◌, suc, ◌+◌, ◌*◌, ◌≤◌, option_to_list};
 ghost use Rattle.printer.specs.Tools.{within, ◌up_to◌, holds};
 ghost use Rattle.printer.specs.Units.{shortest_page};
-ghost use Rattle.printer.specs.Records.{record_size};
 ghost use Rattle.printer.specs.Performing.{done, page_units};
 ghost use Rattle.printer.specs.Deciding.{page_range, attempt, ranged};
 ghost use Rattle.printer.specs.declared.commands.Command.{Command};
@@ -12,20 +11,15 @@ ghost use Rattle.registers.specs.declared.pending.Pending.{Pending};
 ghost use Rattle.registers.specs.Held.{Held};
 ghost use Rattle.interpreter.specs.Doing.{Did, Does};
 
-use crate::output::{write_feed, write_passed};
+use crate::output::{Reason, feed_record, passed_record};
+use measures::lengths::times;
 use printer::commands::Page;
+use printer::records::Record;
 use printer::state::Printer;
 use printer::units::Units;
 use registers::groups::{paper_in, place_in, setup_in};
 use registers::power_on::power_on;
 use registers::{COUNT, DOWN, PAGE, SKIP};
-
-// The units of n lines.
-fn lines(line: Units, n: u8) -> u64
-    ensures { (result ≡ n * line.0) × (result ≤ 255 * 4294967295) }
-{
-    n as u64 * line.0 as u64
-}
 
 // ESC N: whether 3,600 units are left by a skip, and the place is before the new edge.
 fn skip_fits(skip: u64, page: Units, down: Units) -> bool
@@ -39,39 +33,34 @@ fn skip_fits(skip: u64, page: Units, down: Units) -> bool
 }
 
 // A skip of n lines, if it fits.
-fn attempt_skip(m: &mut [u32; COUNT], n: u8, out: &mut [u8], at: usize) -> usize
-    requires { at + record_size ≤ length out.old }
-    ensures { Does (λ (p : Printer). attempt p (Command.Skip n) 3 ∷ [])
-        m.old m.new out.old at result out.new }
+fn attempt_skip(m: &mut [u32; COUNT], n: u8) -> Option<Record>
+    ensures { Does (λ (p : Printer). attempt p (Command.Skip n) 3 ∷ []) m.old m.new (option_to_list result) }
 {
     let paper = paper_in(&*m);
     let place = place_in(&*m);
-    let skip = lines(paper.line, n);
+    let skip = times(paper.line, n as u32);
     if skip_fits(skip, paper.page, place.down) {
         m[SKIP] = skip as u32;
-        return at;
+        return None;
     }
-    write_passed(out, at, b'N', 3)
+    Some(passed_record(b'N', Reason::PastLimits))
 }
 
 // ESC N.
-pub(crate) fn skip(m: &mut [u32; COUNT], n: u8, out: &mut [u8], at: usize) -> usize
-    requires { at + record_size ≤ length out.old }
-    ensures { Does (λ (p : Printer). ranged (within 1 127 n) (Command.Skip n) (attempt p (Command.Skip n) 3) ∷ [])
-        m.old m.new out.old at result out.new }
+pub(crate) fn skip(m: &mut [u32; COUNT], n: u8) -> Option<Record>
+    ensures { Does (λ (p : Printer). ranged (within 1 127 n) (Command.Skip n) (attempt p (Command.Skip n) 3) ∷ []) m.old m.new (option_to_list result) }
 {
     let fits = (1 <= n) & (n <= 127);
     if fits {
-        return attempt_skip(m, n, out, at);
+        return attempt_skip(m, n);
     }
-    write_passed(out, at, b'N', 2)
+    Some(passed_record(b'N', Reason::NotAllowed))
 }
 
 // ESC C in its range: a page of this length, if it is one to 22 inches, and its top.
-fn new_page(m: &mut [u32; COUNT], units: u64, out: &mut [u8], at: usize) -> usize
-    requires { at + record_size ≤ length out.old }
+fn new_page(m: &mut [u32; COUNT], units: u64) -> Record
     ensures { (g : Page) (p : Printer) (v : Pending) → Held p v m.old → units ≡ page_units p.settings g
-        → Did p v (attempt p (Command.Page g) 3 ∷ []) m.new out.old at result out.new }
+        → Did p v (attempt p (Command.Page g) 3 ∷ []) m.new (result ∷ []) }
 {
     let least = Printer::LEAST_PAGE;
     let most = Printer::MOST_PAGE;
@@ -80,19 +69,16 @@ fn new_page(m: &mut [u32; COUNT], units: u64, out: &mut [u8], at: usize) -> usiz
         m[PAGE] = units as u32;
         m[SKIP] = 0;
         m[DOWN] = 0;
-        return write_feed(&*m, Units(0), 255, out, at);
+        return feed_record(&*m, Units(0), 255);
     }
-    write_passed(out, at, b'C', 3)
+    passed_record(b'C', Reason::PastLimits)
 }
 
 // Whether the number of lines or inches is in its range.
 fn page_fits(g: Page) -> bool
     ensures { result ≡ page_range g }
 {
-    match g {
-        Page::Lines(n) => (1 <= n) & (n <= 127),
-        Page::Inches(n) => (1 <= n) & (n <= 22),
-    }
+    matches!(g, Page::Lines(1..=127) | Page::Inches(1..=22))
 }
 
 // The length of the page.
@@ -101,31 +87,27 @@ fn page_units(m: &[u32; COUNT], g: Page) -> u64
 {
     let paper = paper_in(m);
     match g {
-        Page::Lines(n) => lines(paper.line, n),
+        Page::Lines(n) => times(paper.line, n as u32),
         Page::Inches(n) => 3600 * n as u64,
     }
 }
 
 // ESC C.
-pub(crate) fn page(m: &mut [u32; COUNT], g: Page, out: &mut [u8], at: usize) -> usize
-    requires { at + record_size ≤ length out.old }
-    ensures { Does (λ (p : Printer). ranged (page_range g) (Command.Page g) (attempt p (Command.Page g) 3) ∷ [])
-        m.old m.new out.old at result out.new }
+pub(crate) fn page(m: &mut [u32; COUNT], g: Page) -> Record
+    ensures { Does (λ (p : Printer). ranged (page_range g) (Command.Page g) (attempt p (Command.Page g) 3) ∷ []) m.old m.new (result ∷ []) }
 {
     if page_fits(g) {
         let units = page_units(&*m, g);
-        return new_page(m, units, out, at);
+        return new_page(m, units);
     }
-    write_passed(out, at, b'C', 2)
+    passed_record(b'C', Reason::NotAllowed)
 }
 
 // ESC @: power-on, with the settings of the start kept, and a new top.
-pub(crate) fn reset(m: &mut [u32; COUNT], out: &mut [u8], at: usize) -> usize
-    requires { at + record_size ≤ length out.old }
-    ensures { Does (λ (p : Printer). done Command.Reset 0 ∷ [])
-        m.old m.new out.old at result out.new }
+pub(crate) fn reset(m: &mut [u32; COUNT]) -> Record
+    ensures { Does (λ (p : Printer). done Command.Reset 0 ∷ []) m.old m.new (result ∷ []) }
 {
     let setup = setup_in(&*m);
     power_on(&mut *m, setup);
-    write_feed(&*m, Units(0), 255, out, at)
+    feed_record(&*m, Units(0), 255)
 }

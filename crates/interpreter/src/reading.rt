@@ -4,7 +4,6 @@ ghost use Rattle.printer.specs.declared.state.Printer.{Printer};
 ghost use Rattle.registers.specs.declared.pending.Pending.{Pending};
 ghost use Rattle.interpreter.specs.Taking.{Current, Kept, RunPromise};
 
-use crate::series::least;
 use crate::turn::{ROOM, turn};
 use printer::answers::{Answer, Report};
 use printer::commands::Waiting;
@@ -55,12 +54,12 @@ pub(crate) fn run(
         if room < ROOM {
             return ended(Answer::OutputFull, w, at, written);
         }
-        let stop = at + least(left, input.len() - at);
-        let t = turn(w, &mut *m, &input[at..stop], &mut out[written..], left);
+        let stop = at + left.min(input.len() - at);
+        let t = turn(w, &mut *m, &input[at..stop], &mut out[written..]);
         let next = t.waiting;
         w = next;
         at += t.read;
-        left = t.left;
+        left -= t.read;
         written += t.written;
     }
 }

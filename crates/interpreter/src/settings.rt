@@ -1,14 +1,15 @@
 // Settings stored where they stand, and what follows from them.
 ghost use Rattle.std.specs.Prelude.{◌≡◌, false, ◌<◌, set};
 ghost use Rattle.printer.specs.Tools.{holds};
-ghost use Rattle.printer.specs.Settings.{with_width, with_reduced, with_proportional, with_wide_once, with_script};
+ghost use Rattle.printer.specs.Settings.{with_width, with_wide_once, with_script};
 ghost use Rattle.printer.specs.Escapes.{doubled};
 ghost use Rattle.printer.specs.Deciding.{reduced_needs};
 ghost use Rattle.printer.specs.declared.settings.Settings.{Settings};
 ghost use Rattle.printer.specs.declared.state.Printer.{Printer};
 ghost use Rattle.registers.specs.declared.pending.Pending.{Pending};
 ghost use Rattle.registers.specs.Register.{register_count};
-ghost use Rattle.registers.specs.Keeping.{measured};
+ghost use Rattle.registers.specs.Layout.{flag};
+ghost use Rattle.registers.specs.Keeping.{measured, shown_stored};
 ghost use Rattle.registers.specs.Held.{Held};
 ghost use Rattle.interpreter.specs.Doing.{Sets};
 ghost use Rattle.interpreter.specs.Storing.{doubled_in};
@@ -23,6 +24,21 @@ pub(crate) fn store_width(m: &mut [u32; COUNT], register: usize, n: u32)
     ensures { m.new ≡ measured (set m.old register n) }
 {
     m[register] = n;
+    keep_widths(m);
+}
+
+// One that shows in the style bits, switched on or off.
+pub(crate) fn show(m: &mut [u32; COUNT], s: Shown, on: bool)
+    ensures { m.new ≡ shown_stored m.old s (flag on) }
+{
+    store_shown(m, s, flag(on));
+}
+
+// One that shows, and that the widths depend on: reduced, proportional.
+pub(crate) fn show_width(m: &mut [u32; COUNT], s: Shown, on: bool)
+    ensures { m.new ≡ measured (shown_stored m.old s (flag on)) }
+{
+    show(m, s, on);
     keep_widths(m);
 }
 
@@ -45,27 +61,11 @@ pub(crate) fn end_wide_once(m: &mut [u32; COUNT])
     wide_once(m, false);
 }
 
-// SI, and DC2 that ends it.
-pub(crate) fn reduced(m: &mut [u32; COUNT], on: bool)
-    ensures { Sets m.old m.new (λ (s : Settings). with_width s (with_reduced s.width on)) }
-{
-    store_shown(m, Shown::Reduced, flag(on));
-    keep_widths(m);
-}
-
 // Whether SI is allowed: not at 15 cpi.
 pub(crate) fn reduced_allowed(m: &[u32; COUNT]) -> bool
     ensures { (p : Printer) (v : Pending) → Held p v m.now → result ≡ holds (reduced_needs p.settings.width) }
 {
     m[PITCH] != 15
-}
-
-// ESC p.
-pub(crate) fn proportional(m: &mut [u32; COUNT], on: bool)
-    ensures { Sets m.old m.new (λ (s : Settings). with_width s (with_proportional s.width on)) }
-{
-    store_shown(m, Shown::Proportional, flag(on));
-    keep_widths(m);
 }
 
 // Double width, whose end ends SO too.
@@ -88,6 +88,6 @@ pub(crate) fn double_width(m: &mut [u32; COUNT], on: bool)
 pub(crate) fn script(m: &mut [u32; COUNT], up: bool, down: bool)
     ensures { Sets m.old m.new (λ (s : Settings). with_script s up down) }
 {
-    store_shown(m, Shown::Superscript, flag(up));
-    store_shown(m, Shown::Subscript, flag(down));
+    show(m, Shown::Superscript, up);
+    show(m, Shown::Subscript, down);
 }

@@ -1,22 +1,21 @@
 -- Input shown in parts, one after the other.
 use Prim.Native.Nat.{ℕ, ◌+◌, ◌-◌, ◌<◌}
-use mathlib.Core.Path.{◌≡◌, refl, ap, ◌∙◌}
-use mathlib.Core.Bool.{Bool, true, false}
+use mathlib.Core.Path.{◌≡◌, refl, sym, ap, subst, ◌∙◌}
+use mathlib.Core.Bool.{true}
 use mathlib.Core.List.{List, [], ◌++◌}
 use native.Mathlib.Omega.{arith}
 use lib.ListN.{length, take, drop, length-append, length-drop}
-use lib.Dec.{eqb}
 use lib.Seq.{take-add, take_all, length-take-le}
-use borrow.Author.Tests.{eqb-true, eqb-false}
-use Rattle.printer.specs.Tools.{either, Bytes}
+use Rattle.printer.specs.Tools.{Bytes}
 use Rattle.printer.specs.Accepted.{Ours}
 use Rattle.printer.specs.Bounds.{accepted}
 use Rattle.printer.specs.Steps.{state_after}
 use Rattle.printer.specs.declared.state.Printer.{Printer}
-use Rattle.printer.proofs.Choices.{bytes_take, bytes_append, either_elim, either-right}
+use Rattle.printer.proofs.Choices.{bytes_take, bytes_append}
 use Rattle.printer.proofs.Accepting.{fact_accepted}
 use Rattle.printer.proofs.Cuts.{state-append}
 use Rattle.printer.proofs.KeepingSteps.{steps_ours}
+use Rattle.std.specs.Prelude.{Result, Ok, Err, IfOk, IsErrAnd, MatchResult}
 use Rattle.listing.specs.Showing.{Shown, SomeShown, FromInput}
 use Rattle.listing.specs.declared.Progress.{Progress}
 
@@ -49,25 +48,42 @@ module _ {p q : Printer} {input : List ℕ} {n : ℕ} (g : Shown p input q n) wh
   from-shown b =
       record { input = take n input; bytes = bytes_take n input b; size = length-take-le n input g.within; state = g.state }
 
--- the test that ends a loop: writing failed, or nothing was read
-pub fails : (f : Bool) (m : ℕ) → either f (eqb m 0) ≡ true → 0 < m → f ≡ true
-fails f m t n = either_elim (f ≡ true) f (eqb m 0) t (λ e. e) (λ e. let z = eqb-true m 0 e in absurd (omega arith))
+-- what is counted is what the result says
+said_of : {E : Type 0} {result : Result ℕ E} {n m : ℕ} → result ≡ Ok n → IfOk result (λ k. k ≡ m) → n ≡ m
+said_of {E} {m = m} e s = let P : Result ℕ E → Type 0 = λ r. IfOk r (λ k. k ≡ m) in subst P e s
 
-pub goes_on : (f : Bool) (m : ℕ) → either f (eqb m 0) ≡ false → 0 < m
-goes_on f m t = let z = eqb-false m 0 (either-right f (eqb m 0) t) in omega arith
+-- an error of another kind leaves the count
+pub said-mapped : {E F : Type 0} (r : Result ℕ E) (s : Result ℕ F) (m : ℕ) (R : E → F → Type 0)
+    → MatchResult r (λ x. s ≡ Ok x) (λ e. IsErrAnd s (R e)) → IfOk r (λ k. k ≡ m) → IfOk s (λ k. k ≡ m)
+said-mapped {F = F} (Ok x) s m R h k = let P : Result ℕ F → Type 0 = λ t. IfOk t (λ k. k ≡ m) in subst P (sym h) k
+said-mapped (Err e) (Ok y) m R h k = absurd h
+said-mapped (Err e) (Err z) m R h k = tt
 
 -- A turn: what is left of the piece is shown in part
 
-module _ {p q : Printer} {input : List ℕ} {n : ℕ} (g : Shown p input q n)
-    {progress : Progress} (h : SomeShown q (take (length input - n) (drop n input)) progress) where
-  rest-shown : SomeShown q (drop n input) progress
-  rest-shown = let k = length-drop n input in rw (take_all (length input - n) (drop n input) (omega arith)) at h
+pub record Going (before : Progress) (input : List ℕ) (after : Progress) (at : ℕ) : Type 0 where
+  pub total : after.read ≡ before.read + at
+  pub shown : Shown before.printer input after.printer at
+  pub kept : accepted before.printer ≡ true → accepted after.printer ≡ true
 
-  pub turn-shown : Shown p input progress.printer (n + progress.read)
-  turn-shown = shown-more g rest-shown.shown
+pub going-none : (p : Progress) (input : List ℕ) → Going p input p 0
+going-none p input = record { total = omega arith; shown = shown-none p.printer input; kept = λ e. e }
 
-  pub turn-some : Bytes input → Ours p → n < length input → 0 < progress.read
-  turn-some b o l = rest-shown.some (shown-accepted g b o) (omega (arith, length-drop n input))
+module _ {E : Type 0} {before now after : Progress} {input : List ℕ} {at : ℕ} {result : Result ℕ E} (g : Going before input now at)
+    (h : SomeShown now (take (length input - at) (drop at input)) result after) where
+  pub rest : SomeShown now (drop at input) result after
+  rest = let k = length-drop at input in rw (take_all (length input - at) (drop at input) (omega arith)) at h
+
+  pub turned : Going before input after (at + rest.read)
+  turned = let t = rest.counted.total in record { total = omega (arith, g.total); shown = shown-more g.shown rest.shown; kept = λ e. rest.kept (g.kept e) }
+
+  module _ {n : ℕ} (e : result ≡ Ok n) where
+    pub turned-ok : Going before input after (at + n)
+    turned-ok = rw (said_of e rest.counted.said) turned
+
+    pub turned-some : accepted before.printer ≡ true → at < length input → 0 < n
+    turned-some a l =
+        let k = rest.some (g.kept a) (omega (arith, length-drop at input)) in omega (arith, said_of e rest.counted.said)
 
 -- Input from outside
 

@@ -1,6 +1,6 @@
--- What showing input promises: the state left is that of the rules' steps over the bytes read. Whether writing failed is std's own answer,
+-- What showing input promises: the state left is that of the rules' steps over the bytes read. Whether a stream failed is std's own answer,
 -- and free.
-use Rattle.std.specs.Prelude.{ℕ, ◌≤◌, ◌<◌, ◌≡◌, true, false, List, length, take}
+use Rattle.std.specs.Prelude.{ℕ, ◌+◌, ◌≤◌, ◌<◌, ◌≡◌, true, false, List, length, take, Result, IfOk, IsOk}
 use Rattle.printer.specs.Tools.{Bytes}
 use Rattle.printer.specs.Bounds.{accepted}
 use Rattle.printer.specs.Steps.{state_after}
@@ -13,16 +13,26 @@ pub record Shown (p : Printer) (input : List ℕ) (after : Printer) (read : ℕ)
   pub within : read ≤ length input
   pub refused : accepted p ≡ false → read ≡ 0
 
--- by one call: a byte at least, if there is one
-pub record SomeShown (p : Printer) (input : List ℕ) (back : Progress) : Type 0 where
-  pub shown : Shown p input back.printer back.read
-  pub some : accepted p ≡ true → 0 < length input → 0 < back.read
+-- so many bytes are counted: those that the result says, and no others where a stream failed
+pub record Counted {E : Type 0} (before : Progress) (result : Result ℕ E) (after : Progress) (read : ℕ) : Type 0 where
+  pub said : IfOk result (λ n. n ≡ read)
+  pub total : after.read ≡ before.read + read
+
+-- by one call: a byte at least, if there is one, and a state that is taken stays so
+pub record SomeShown {E : Type 0} (before : Progress) (input : List ℕ) (result : Result ℕ E) (after : Progress) : Type 0 where
+  pub read : ℕ
+  pub counted : Counted before result after read
+  pub shown : Shown before.printer input after.printer read
+  pub some : accepted before.printer ≡ true → 0 < length input → 0 < read
+  pub kept : accepted before.printer ≡ true → accepted after.printer ≡ true
 
 -- a piece of bytes: all of it, if writing did not fail
-pub record AllShown (p : Printer) (input : List ℕ) (back : Progress) : Type 0 where
-  pub shown : Shown p input back.printer back.read
+pub record AllShown {E : Type 0} (before : Progress) (input : List ℕ) (result : Result ℕ E) (after : Progress) : Type 0 where
+  pub read : ℕ
+  pub counted : Counted before result after read
+  pub shown : Shown before.printer input after.printer read
   pub bytes : Bytes input
-  pub all : accepted p ≡ true → back.failed ≡ false → back.read ≡ length input
+  pub all : accepted before.printer ≡ true → IsOk result → read ≡ length input
 
 -- so many bytes from outside lead from a state to another. Which they are, and how many come, is free: no contract of std says what a
 -- descriptor has.
@@ -35,3 +45,10 @@ pub record FromInput (p after : Printer) (read : ℕ) : Type 0 where
 -- the most bytes of a piece
 abbrev pub piece_size : ℕ
 piece_size = 32768
+
+-- a piece, from outside
+pub record Taken {E : Type 0} (before : Progress) (result : Result ℕ E) (after : Progress) : Type 0 where
+  pub read : ℕ
+  pub counted : Counted before result after read
+  pub from_input : FromInput before.printer after.printer read
+  pub read_le_piece_size : read ≤ piece_size

@@ -6,6 +6,5 @@ use printer::starting::plain_start;
 
 fn main(rt: HostRuntime) {
     let started = reader::start(plain_start());
-    let printer = started.printer;
-    listing::run(&rt, printer);
+    let _ = listing::run(&rt, started.printer);
 }

@@ -28,86 +28,68 @@ fn rounded(at: Units, d: u32) -> Rounded
     with_dots(n, ((n + 1800) / 3600) as u32)
 }
 
-// The dots of an inch across.
-pub(crate) fn per_inch_across(resolution: Resolution) -> u32
-    ensures { (result ≡ per_inch_across resolution) × (result ≤ 300) }
-{
-    match resolution {
-        Resolution::Dots300 => 300,
-        Resolution::Dots203 => 203,
-    }
-}
-
-// The dots of an inch down.
-fn per_inch_down(resolution: Resolution) -> u32
-    ensures { (result ≡ per_inch_down resolution) × (result ≤ 300) }
-{
-    match resolution {
-        Resolution::Dots300 => 300,
-        Resolution::Dots203 => 200,
-    }
-}
-
 // The dot column of a place across, and its rest.
 pub fn across(resolution: Resolution, at: Units) -> Rounded
     ensures { result ≡ across_rounding resolution at.0 }
 {
-    rounded(at, per_inch_across(resolution))
+    rounded(at, resolution.dots_across())
 }
 
 // The dot row of a place down.
 pub fn row(resolution: Resolution, at: Units) -> Dots
     ensures { result ≡ row_dots resolution at.0 }
 {
-    rounded(at, per_inch_down(resolution)).dot
+    rounded(at, resolution.dots_down()).dot
 }
 
 // An exact place across, or a step between two, as one number: 65,536 times what is over, and the dots. A step further is a sum and a comparison.
 #[derive(Clone, Copy)]
 pub struct Exact(pub u32);
 
-// The exact place of a place, with the half that rounds.
-pub fn place(resolution: Resolution, at: Units) -> Exact
-    ensures { result ≡ record { 0 = packed (at.0 * per_inch_across resolution + 1800) } }
-{
-    let r = rounded(at, per_inch_across(resolution));
-    let over = (r.rest.0 as u32 + 1800) % 65536;
-    Exact(65536 * over + r.dot.0)
-}
-
-// An exact step: a length without that half.
-pub fn step(resolution: Resolution, by: Units) -> Exact
-    ensures { result ≡ record { 0 = packed (by.0 * per_inch_across resolution) } }
-{
-    let r = rounded(by, per_inch_across(resolution));
-    let rest = r.rest.0 as u32;
-    if rest < 32768 {
-        return Exact(65536 * rest + r.dot.0);
+impl Exact {
+    // The exact place of a place, with the half that rounds.
+    pub fn place(resolution: Resolution, at: Units) -> Exact
+        ensures { result ≡ record { 0 = packed (at.0 * per_inch_across resolution + 1800) } }
+    {
+        let r = rounded(at, resolution.dots_across());
+        let over = (r.rest.0 as u32 + 1800) % 65536;
+        Exact(65536 * over + r.dot.0)
     }
-    Exact(65536 * (rest - 61936) + (r.dot.0 - 1))
-}
 
-// The exact place a step further.
-pub fn further(from: Exact, by: Exact) -> Exact
-    ensures { result ≡ record { 0 = carried ((from.0 + by.0) % 4294967296) } }
-{
-    let sum = ((from.0 as u64 + by.0 as u64) % 4294967296) as u32;
-    if sum < 235929600 {
-        return Exact(sum);
+    // An exact step: a length without that half.
+    pub fn step(resolution: Resolution, by: Units) -> Exact
+        ensures { result ≡ record { 0 = packed (by.0 * per_inch_across resolution) } }
+    {
+        let r = rounded(by, resolution.dots_across());
+        let rest = r.rest.0 as u32;
+        if rest < 32768 {
+            return Exact(65536 * rest + r.dot.0);
+        }
+        Exact(65536 * (rest - 61936) + (r.dot.0 - 1))
     }
-    Exact(sum - 235929599)
-}
 
-// The dot of an exact place.
-pub fn dot_of(at: Exact) -> Dots
-    ensures { result ≡ record { 0 = dot_of at.0 } }
-{
-    Dots(at.0 % 65536)
-}
+    // The exact place a step further.
+    pub fn further(self, by: Exact) -> Exact
+        ensures { result ≡ record { 0 = carried ((self.0 + by.0) % 4294967296) } }
+    {
+        let sum = ((self.0 as u64 + by.0 as u64) % 4294967296) as u32;
+        if sum < 235929600 {
+            return Exact(sum);
+        }
+        Exact(sum - 235929599)
+    }
 
-// Its rest: half a dot less than what is over.
-pub fn rest_of(at: Exact) -> Rest
-    ensures { result ≡ record { 0 = rest_of at.0 } }
-{
-    Rest(((at.0 / 65536 + 63736) % 65536) as u16)
+    // Its dot.
+    pub fn dot(self) -> Dots
+        ensures { result ≡ record { 0 = dot_of self.0 } }
+    {
+        Dots(self.0 % 65536)
+    }
+
+    // Its rest: half a dot less than what is over.
+    pub fn rest(self) -> Rest
+        ensures { result ≡ record { 0 = rest_of self.0 } }
+    {
+        Rest(((self.0 / 65536 + 63736) % 65536) as u16)
+    }
 }

@@ -40,12 +40,9 @@ fn face_style(f: Face) -> u16
 }
 
 // The style bits.
+#[tactic(auto, unfolding(printer::specs::Records::style_of))]
 pub fn style_of(s: Settings) -> u16
     ensures { result ≡ style_of s }
 {
-    let emphasis = s.emphasis;
-    let script = s.script;
-    let width = s.width;
-    let face = s.face;
-    emphasis_style(emphasis) + script_style(script) + width_style(width) + face_style(face)
+    emphasis_style(s.emphasis) + script_style(s.script) + width_style(s.width) + face_style(s.face)
 }

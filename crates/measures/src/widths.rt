@@ -4,7 +4,6 @@ ghost use Rattle.printer.specs.Units.{units, per_inch_across};
 ghost use Rattle.printer.specs.Widths.{base, double_width, advance, column_width, image_step, image_bytes};
 ghost use Rattle.measures.specs.Exact.{packed};
 
-use crate::rounding::per_inch_across;
 use printer::commands::ImageMode;
 use printer::settings::{Pitch, Width};
 use printer::units::{Resolution, Units};
@@ -12,21 +11,15 @@ use printer::units::{Resolution, Units};
 fn base_units(w: Width) -> u32
     ensures { (result ≡ base w.pitch w.reduced w.proportional) × (result ≤ 360) }
 {
-    let pitch = w.pitch;
-    if w.proportional {
-        if w.reduced { 180 } else { 360 }
-    } else if w.reduced {
-        match pitch {
-            Pitch::Cpi10 => 216,
-            Pitch::Cpi12 => 180,
-            Pitch::Cpi15 => 240,
-        }
-    } else {
-        match pitch {
-            Pitch::Cpi10 => 360,
-            Pitch::Cpi12 => 300,
-            Pitch::Cpi15 => 240,
-        }
+    match (w.pitch, w.reduced, w.proportional) {
+        (Pitch::Cpi10, false, false) => 360,
+        (Pitch::Cpi12, false, false) => 300,
+        (Pitch::Cpi15, false, false) => 240,
+        (Pitch::Cpi10, true, false) => 216,
+        (Pitch::Cpi12, true, false) => 180,
+        (Pitch::Cpi15, true, false) => 240,
+        (_, false, true) => 360,
+        (_, true, true) => 180,
     }
 }
 
@@ -55,7 +48,7 @@ pub fn advance(w: Width) -> Units
 pub fn is_advance_dots(n: u32, resolution: Resolution, w: Width) -> bool
     ensures { result ≡ eqb n (packed (advance w * per_inch_across resolution)) }
 {
-    let parts = advance_units(w) * per_inch_across(resolution);
+    let parts = advance_units(w) * resolution.dots_across();
     if n < 235929600 {
         return n % 65536 * 3600 + n / 65536 == parts;
     }
@@ -97,16 +90,16 @@ pub fn image_bytes(m: ImageMode) -> u8
     ensures { result ≡ image_bytes m }
 {
     match m {
-        ImageMode::Single => 1,
-        ImageMode::Double => 1,
-        ImageMode::DoubleSpeed => 1,
-        ImageMode::Quadruple => 1,
-        ImageMode::Crt80 => 1,
-        ImageMode::Crt90 => 1,
-        ImageMode::Single24 => 3,
-        ImageMode::Double24 => 3,
-        ImageMode::Crt24 => 3,
-        ImageMode::Triple24 => 3,
-        ImageMode::Hex24 => 3,
+        ImageMode::Single
+        | ImageMode::Double
+        | ImageMode::DoubleSpeed
+        | ImageMode::Quadruple
+        | ImageMode::Crt80
+        | ImageMode::Crt90 => 1,
+        ImageMode::Single24
+        | ImageMode::Double24
+        | ImageMode::Crt24
+        | ImageMode::Triple24
+        | ImageMode::Hex24 => 3,
     }
 }

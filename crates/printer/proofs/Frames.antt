@@ -3,6 +3,7 @@ use Prim.Native.Nat.{ℕ, ◌+◌, ◌*◌, ◌≤◌, ◌<◌}
 use mathlib.Core.Path.{◌≡◌, sym, refl}
 use mathlib.Core.Bool.{Bool, true, false}
 use mathlib.Core.List.{List, [], ◌∷◌, ◌++◌, map}
+use Rattle.std.specs.Prelude.{Option, Some, None}
 use mathlib.Core.Logic.{◌⊎◌, inl, inr, ⊎_elim}
 use native.Mathlib.Omega.{arith}
 use lib.Dec.{leb, ltb, eqb}
@@ -14,7 +15,7 @@ use Rattle.printer.specs.Codes.{control_code, one_code, two_code, begun_by, firs
 use Rattle.printer.specs.Framing.{is_letter, read_as, controls, escapes, selections, first_of, second_of, selected_of, one_command, two_command, after_two, opened_mode, image_wait, list_opened, first_frame, second_frame, advanced_frame, mode_frame, selected_frame, continued, frame}
 use Rattle.printer.specs.Deciding.{reason_of}
 use Rattle.printer.specs.Spelling.{among, listed_controls, listed_escapes, listed_image_modes, StandsFor, Unlisted, Begins, Classified}
-use Rattle.printer.specs.Types.{Begun, Command, Control, First, Frame, ImageMode, Listing, ListOpening, ListPart, Look, One, Opening, Page, Refused, Second, Selected, Silent, Two, Waiting}
+use Rattle.printer.specs.Types.{Begun, Command, Control, First, Frame, ImageMode, Listing, ListOpening, ListPart, Look, One, Opening, Page, Refused, Second, Silent, Two, Waiting}
 use Rattle.printer.proofs.Choices.{pick_elim, either_elim, either_left, either-right, within_fact}
 use Rattle.printer.proofs.Listed.{found}
 
@@ -327,19 +328,19 @@ mode_framed upper n =
     (λ e. refused_framed upper (Refused.CommandMode n) (eqb-false n 0 e))
 
 -- the mode of ESC *
-abbrev is_mode : Selected → Bool
-is_mode (Selected.Mode m) = true
-is_mode Selected.Unlisted = false
+abbrev is_mode : Option ImageMode → Bool
+is_mode (Some m) = true
+is_mode None = false
 
-selected_framed : (upper : Bool) (s : Selected) (b : ℕ) → is_mode s ≡ true → b ≡ selected_number s
+selected_framed : (upper : Bool) (s : Option ImageMode) (b : ℕ) → is_mode s ≡ true → b ≡ selected_number s
     → Framed upper (begun_by Begun.SelectMode ++ (b ∷ [])) (selected_frame s b)
-selected_framed upper (Selected.Mode m) b q e = begins {w = Begun.ColumnsLow m} (rw e)
-selected_framed upper Selected.Unlisted b q e = absurd (clash cc)
+selected_framed upper (Some m) b q e = begins {w = Begun.ColumnsLow m} (rw e)
+selected_framed upper None b q e = absurd (clash cc)
 
 select_framed : (upper : Bool) (b : ℕ) → Framed upper (begun_by Begun.SelectMode ++ (b ∷ [])) (selected_frame (selected_of b) b)
 unfolding selections image_modes listed_image_modes
 select_framed upper b =
-    found (λ (s : Selected). Framed upper (begun_by Begun.SelectMode ++ (b ∷ [])) (selected_frame s b)) is_mode selected_number image_modes Selected.Unlisted b refl
+    found (λ (s : Option ImageMode). Framed upper (begun_by Begun.SelectMode ++ (b ∷ [])) (selected_frame s b)) is_mode selected_number image_modes None b refl
     (λ s q e. selected_framed upper s b q e) (λ k. refused_framed upper (Refused.ImageMode b) k)
 
 argument_framed : (upper : Bool) (w : Begun) (b : ℕ) → Framed upper (begun_by w ++ (b ∷ [])) (continued w b)

@@ -22,6 +22,7 @@ use Rattle.printer.specs.InForce.{Image, ListSets, sets_columns, sets_channel, s
 use Rattle.printer.specs.Reckoning.{change_of}
 use Rattle.printer.specs.Spelling.{Classified}
 use Rattle.printer.specs.Types.{Command, Control, ImageMode, Listing, ListPart, Look, Parameter, Place, Printer, Settings, Stop, Stops, Target}
+use Rattle.std.specs.Prelude.{Option}
 use Rattle.printer.proofs.Choices.{pick_elim, holds_fact}
 use Rattle.printer.proofs.Frames.{known, NoList, NoImage}
 use Rattle.printer.proofs.ChannelLaws.{eight_lists}
@@ -221,7 +222,7 @@ module _ (p : Printer) (P : Command → List Event → Type 0) (w : Ways p P) wh
   unfolding column_from
   decided-tab b before [] e = w.passes _ 5 (omega arith) (λ n i. tt)
   decided-tab b before (n ∷ l) e =
-      pick_elim (λ (x : Stop). P (ht b) (tab_event (ht b) x ∷ [])) (holds (tab_needs p.settings p.place n))
+      pick_elim (λ (x : Option Stop). P (ht b) (tab_event (ht b) x ∷ [])) (holds (tab_needs p.settings p.place n))
       (λ t. w.does _ _ (free (λ k m z. cc) (λ k z. cc)) (rw (number before n l _ e) (holds_fact (tab_needs p.settings p.place n) t)))
       (λ _. rw (longer before n) at (decided-tab b (before ++ (n ∷ [])) l (append_snoc before n l ∙ e)))
 
@@ -230,7 +231,7 @@ module _ (p : Printer) (P : Command → List Event → Type 0) (w : Ways p P) wh
   unfolding line_from
   decided-stop b before [] e = w.performs b Control.FormFeed 0 tt
   decided-stop b before (n ∷ l) e =
-      pick_elim (λ (x : Stop). P (vt b) (vertical_events p (vt b) x)) (ltb (down_of p.place) n)
+      pick_elim (λ (x : Option Stop). P (vt b) (vertical_events p (vt b) x)) (ltb (down_of p.place) n)
       (λ _. pick_elim (P (vt b)) (ltb n (edge_of p.settings))
       (λ t. w.does _ _ (free (λ k m z. cc) (λ k z. cc)) (rw (number before n l _ e) (ltb-true _ _ t, tt)))
       (λ _. w.performs b Control.FormFeed 0 tt))

@@ -3,6 +3,7 @@ use Prim.Native.Nat.{ℕ, ◌≤◌}
 use mathlib.Core.Path.{◌≡◌, refl}
 use mathlib.Core.Bool.{Bool, true, false}
 use mathlib.Core.List.{List, [], ◌∷◌, map}
+use Rattle.std.specs.Prelude.{Some, None}
 use native.Mathlib.Omega.{arith}
 use lib.Dec.{leb, eqb}
 use borrow.Author.Tests.{eqb-true, leb-true}
@@ -11,7 +12,7 @@ use Rattle.printer.specs.Escapes.{mode_row, parameter_row, switch_row, choice_ro
 use Rattle.printer.specs.Codes.{control_code, one_code, two_code, first_code, second_code, image_mode_number, selected_number, firsts, seconds, plain_escapes, argument_escapes, other_escapes, image_modes}
 use Rattle.printer.specs.Framing.{controls, escapes, selections, first_of, second_of, selected_of}
 use Rattle.printer.specs.Spelling.{among, listed_controls, listed_escapes, listed_image_modes, EveryListed}
-use Rattle.printer.specs.Types.{Begun, Choice, Control, Density, First, ImageMode, Mode, Move, One, Parameter, Pitch, Second, Selected, Side, Switch, Tabs, Two}
+use Rattle.printer.specs.Types.{Begun, Choice, Control, Density, First, ImageMode, Mode, Move, One, Parameter, Pitch, Second, Side, Switch, Tabs, Two}
 use Rattle.printer.proofs.Choices.{pick_elim, either_left, either-right}
 
 heads : {B : Type 0} {x y : B} {xs ys : List B} → x ∷ xs ≡ y ∷ ys → x ≡ y
@@ -45,9 +46,9 @@ no-escape : (b : ℕ) → among listed_escapes b ≡ false → second_of b ≡ S
 unfolding escapes seconds plain_escapes argument_escapes other_escapes modes looks parameters choices listed_escapes
 no-escape b e = missed second_code seconds Second.Unlisted b e
 
-no-image-mode : (b : ℕ) → among listed_image_modes b ≡ false → selected_of b ≡ Selected.Unlisted
+no-image-mode : (b : ℕ) → among listed_image_modes b ≡ false → selected_of b ≡ None
 unfolding selections image_modes listed_image_modes
-no-image-mode b e = missed selected_number image_modes Selected.Unlisted b e
+no-image-mode b e = missed selected_number image_modes None b e
 
 -- every control, escape and mode of ESC * is found by its code
 
@@ -131,7 +132,7 @@ unfolding lookup coded escapes seconds plain_escapes argument_escapes other_esca
 list-listed Tabs.Horizontal = refl
 list-listed Tabs.Vertical = refl
 
-image-mode-listed : (m : ImageMode) → selected_of (image_mode_number m) ≡ Selected.Mode m
+image-mode-listed : (m : ImageMode) → selected_of (image_mode_number m) ≡ Some m
 unfolding lookup coded selections image_modes
 image-mode-listed ImageMode.Single = refl
 image-mode-listed ImageMode.Double = refl

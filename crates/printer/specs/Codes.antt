@@ -1,7 +1,7 @@
 -- The bytes that commands are received by: with those of Escapes, each written once. What is listed, and the byte that a NO bears.
-use Rattle.std.specs.Prelude.{ℕ, List, [], ◌∷◌, ◌++◌, map, get_or}
+use Rattle.std.specs.Prelude.{ℕ, List, [], ◌∷◌, ◌++◌, Option, Some, None, map, get_or}
 use Rattle.printer.specs.Escapes.{mode_row, parameter_row, switch_row, choice_row, modes, looks, parameters, choices}
-use Rattle.printer.specs.Types.{Begun, Command, Control, Density, First, ImageMode, ListOpening, ListPart, Look, Move, One, Opening, Page, Refused, Second, Selected, Side, Silent, Tabs, Two}
+use Rattle.printer.specs.Types.{Begun, Command, Control, Density, First, ImageMode, ListOpening, ListPart, Look, Move, One, Opening, Page, Refused, Second, Side, Silent, Tabs, Two}
 
 abbrev pub control_code : Control → ℕ
 control_code Control.Backspace = 0x08
@@ -129,13 +129,13 @@ unfoldable pub seconds : List Second
 seconds = plain_escapes ++ (argument_escapes ++ other_escapes)
 
 -- the modes of ESC *
-abbrev pub selected_number : Selected → ℕ
-selected_number (Selected.Mode m) = image_mode_number m
-selected_number Selected.Unlisted = 0
+abbrev pub selected_number : Option ImageMode → ℕ
+selected_number (Some m) = image_mode_number m
+selected_number None = 0
 
-unfoldable pub image_modes : List Selected
+unfoldable pub image_modes : List (Option ImageMode)
 image_modes =
-    map Selected.Mode
+    map Some
     (ImageMode.Single ∷ ImageMode.Double ∷ ImageMode.DoubleSpeed ∷ ImageMode.Quadruple ∷ ImageMode.Crt80 ∷ ImageMode.Crt90 ∷
     ImageMode.Single24 ∷ ImageMode.Double24 ∷ ImageMode.Crt24 ∷ ImageMode.Triple24 ∷ ImageMode.Hex24 ∷ [])
 

@@ -1,5 +1,5 @@
 -- Document 01, 'Widths' and 'Commands': which commands are done and which are passed over.
-use Rattle.std.specs.Prelude.{ℕ, zero, suc, ◌+◌, ◌*◌, ◌-◌, ◌/◌, Bool, true, false, List, [], ◌∷◌, leb, ltb, eqb}
+use Rattle.std.specs.Prelude.{ℕ, zero, suc, ◌+◌, ◌*◌, ◌-◌, ◌/◌, Bool, true, false, List, [], ◌∷◌, Option, None, Some, leb, ltb, eqb}
 use Rattle.printer.specs.Tools.{pick, within, Order, ◌up_to◌, passes, holds}
 use Rattle.printer.specs.Units.{units, shortest_page, longest_page}
 use Rattle.printer.specs.Widths.{image_step}
@@ -7,7 +7,7 @@ use Rattle.printer.specs.Settings.{left_of, right_of, paper_width_of, page_of, l
 use Rattle.printer.specs.Escapes.{parameter_row, look_takes}
 use Rattle.printer.specs.Records.{unlisted, not_allowed, past_limits, does_not_fit, no_stop}
 use Rattle.printer.specs.Performing.{Event, done, passed, inside, automatic, stop_at, stop_of, page_units, perform}
-use Rattle.printer.specs.Types.{Command, Control, Listing, ListOpening, ListPart, Move, Page, Pitch, Place, Printer, Refused, Settings, Side, Stop, Stops, Target, Width}
+use Rattle.printer.specs.Types.{Command, Control, Listing, ListOpening, ListPart, Move, Page, Pitch, Place, Printer, Refused, Settings, Side, Stop, Stops, Target, Units, Width}
 
 -- Range: reason 2; that of settings stands in their rows
 
@@ -161,29 +161,33 @@ letter_events p b =
 unfoldable pub feed_after_return : Printer → List Event
 feed_after_return p = pick p.settings.setup.autofeed (inside Control.LineFeed (pages_of_line p) ∷ []) []
 
--- HT: the first stop above across and not past right, by its number; the list's first is the k-th
-unfoldable pub column_from : Settings → Place → ℕ → List ℕ → Stop
-column_from s x k [] = Stop.Missing
-column_from s x k (n ∷ l) =
-    pick (holds (tab_needs s x n)) (Stop.Found k (units (left_of s + n * column_of s))) (column_from s x (suc k) l)
+-- the stop of a number, at a place
+abbrev pub numbered : (number : ℕ) → (place : Units) → Stop
+numbered k n = record { number = k; place = n }
 
-abbrev pub tab_event : Command → Stop → Event
-tab_event c (Stop.Found k n) = done c k
-tab_event c Stop.Missing = passed c no_stop
+-- HT: the first stop above across and not past right, by its number; the list's first is the k-th
+unfoldable pub column_from : Settings → Place → ℕ → List ℕ → Option Stop
+column_from s x k [] = None
+column_from s x k (n ∷ l) =
+    pick (holds (tab_needs s x n)) (Some (numbered k (units (left_of s + n * column_of s)))) (column_from s x (suc k) l)
+
+abbrev pub tab_event : Command → Option Stop → Event
+tab_event c (Some s) = done c s.number
+tab_event c None = passed c no_stop
 
 -- VT: the first stop greater than down
-unfoldable pub line_from : ℕ → ℕ → List ℕ → Stop
-line_from down k [] = Stop.Missing
-line_from down k (n ∷ l) = pick (ltb down n) (Stop.Found k (units n)) (line_from down (suc k) l)
+unfoldable pub line_from : ℕ → ℕ → List ℕ → Option Stop
+line_from down k [] = None
+line_from down k (n ∷ l) = pick (ltb down n) (Some (numbered k (units n))) (line_from down (suc k) l)
 
 -- VT performed as another command
 abbrev pub form_inside : Command → List Event
 form_inside c = done c 0 ∷ inside Control.FormFeed 0 ∷ []
 
 -- go to the stop; if there is none, or it is at or past the edge: FF
-abbrev pub vertical_events : Printer → Command → Stop → List Event
-vertical_events p c (Stop.Found k n) = pick (ltb n.0 (edge_of p.settings)) (done c k ∷ []) (form_inside c)
-vertical_events p c Stop.Missing = form_inside c
+abbrev pub vertical_events : Printer → Command → Option Stop → List Event
+vertical_events p c (Some s) = pick (ltb s.place.0 (edge_of p.settings)) (done c s.number ∷ []) (form_inside c)
+vertical_events p c None = form_inside c
 
 -- the chosen channel never set: LF; its list empty: CR; else the search
 unfoldable pub vertical : Printer → Command → List Event

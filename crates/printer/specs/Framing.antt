@@ -1,9 +1,9 @@
 -- From bytes to commands: what a byte is after what was waited for. Document 01, 'Widths' (what a letter is) and 'Commands'.
-use Rattle.std.specs.Prelude.{ℕ, suc, ◌+◌, ◌*◌, ◌-◌, Bool, true, false, List, leb, eqb}
+use Rattle.std.specs.Prelude.{ℕ, suc, ◌+◌, ◌*◌, ◌-◌, Bool, true, false, List, Option, Some, None, leb, eqb}
 use Rattle.printer.specs.Tools.{pick, both, either, within, lookup, coded}
 use Rattle.printer.specs.Widths.{image_bytes}
 use Rattle.printer.specs.Codes.{first_code, second_code, selected_number, firsts, seconds, image_modes, mode_code, status_code}
-use Rattle.printer.specs.Types.{Begun, Command, Density, First, Frame, ImageMode, Listing, ListOpening, ListPart, Look, One, Opening, Page, Refused, Second, Selected, Silent, Tabs, Target, Two, Waiting}
+use Rattle.printer.specs.Types.{Begun, Command, Density, First, Frame, ImageMode, Listing, ListOpening, ListPart, Look, One, Opening, Page, Refused, Second, Silent, Tabs, Target, Two, Waiting}
 
 -- a letter: 20h to 7Eh, A0h to FFh, and 80h to 9Fh after ESC 6
 unfoldable pub is_letter : Bool → ℕ → Bool
@@ -20,7 +20,7 @@ controls = coded first_code firsts
 unfoldable pub escapes : List (ℕ × Second)
 escapes = coded second_code seconds
 
-unfoldable pub selections : List (ℕ × Selected)
+unfoldable pub selections : List (ℕ × Option ImageMode)
 selections = coded selected_number image_modes
 
 abbrev pub first_of : ℕ → First
@@ -29,8 +29,8 @@ first_of b = lookup controls First.Unlisted b
 abbrev pub second_of : ℕ → Second
 second_of b = lookup escapes Second.Unlisted b
 
-abbrev pub selected_of : ℕ → Selected
-selected_of b = lookup selections Selected.Unlisted b
+abbrev pub selected_of : ℕ → Option ImageMode
+selected_of b = lookup selections None b
 
 abbrev pub one_command : One → ℕ → Command
 one_command (One.Parameter c) n = Command.Parameter c n
@@ -108,9 +108,9 @@ mode_frame n =
     (Frame.Whole (Command.Refused (Refused.CommandMode n)) Waiting.Nothing)
 
 -- document 02, E4: the mode of ESC *; another is not allowed
-abbrev pub selected_frame : Selected → ℕ → Frame
-selected_frame (Selected.Mode m) b = Frame.Waits (Waiting.Arguments (Begun.ColumnsLow m))
-selected_frame Selected.Unlisted b = Frame.Whole (Command.Refused (Refused.ImageMode b)) Waiting.Nothing
+abbrev pub selected_frame : Option ImageMode → ℕ → Frame
+selected_frame (Some m) b = Frame.Waits (Waiting.Arguments (Begun.ColumnsLow m))
+selected_frame None b = Frame.Whole (Command.Refused (Refused.ImageMode b)) Waiting.Nothing
 
 -- an argument; that of ESC C is 0 where inches follow
 abbrev pub continued : Begun → ℕ → Frame

@@ -1,12 +1,12 @@
 -- The bytes that commands were received by: the terms of the spelling law.
-use Rattle.std.specs.Prelude.{ℕ, ◌+◌, ◌≤◌, ◌≡◌, List, [], ◌∷◌, ◌++◌, ◌⊎◌, eqb, Bool, true, false}
+use Rattle.std.specs.Prelude.{ℕ, ◌+◌, ◌≤◌, ◌≡◌, List, [], ◌∷◌, ◌++◌, ◌⊎◌, Some, None, eqb, Bool, true, false}
 use Rattle.printer.specs.Tools.{either, Each}
 use Rattle.printer.specs.Escapes.{mode_row, switch_row}
 use Rattle.printer.specs.Codes.{control_code, one_code, two_code, begun_by, second_code, image_mode_number, spelt}
 use Rattle.printer.specs.Framing.{first_of, second_of, selected_of}
 use Rattle.printer.specs.Performing.{Event, done, passed, inside, automatic}
 use Rattle.printer.specs.Steps.{step_events, step_of}
-use Rattle.printer.specs.Types.{Begun, Command, Control, First, ImageMode, Mode, One, Printer, Refused, Second, Selected, Silent, Switch, Tabs, Two, Waiting}
+use Rattle.printer.specs.Types.{Begun, Command, Control, First, ImageMode, Mode, One, Printer, Refused, Second, Silent, Switch, Tabs, Two, Waiting}
 
 -- What events spell: commands performed inside another have no bytes of their own.
 
@@ -106,5 +106,5 @@ pub record EveryListed : Type 0 where
   pub no_control : (b : ℕ) → among listed_controls b ≡ false → first_of b ≡ First.Unlisted
   pub no_escape : (b : ℕ) → among listed_escapes b ≡ false → second_of b ≡ Second.Unlisted
   -- so with the modes of ESC *
-  pub image_mode : (m : ImageMode) → selected_of (image_mode_number m) ≡ Selected.Mode m
-  pub no_image_mode : (b : ℕ) → among listed_image_modes b ≡ false → selected_of b ≡ Selected.Unlisted
+  pub image_mode : (m : ImageMode) → selected_of (image_mode_number m) ≡ Some m
+  pub no_image_mode : (b : ℕ) → among listed_image_modes b ≡ false → selected_of b ≡ None

@@ -10,7 +10,6 @@ pub use Rattle.printer.specs.declared.commands.Control.{Control}
 pub use Rattle.printer.specs.declared.commands.Density.{Density}
 pub use Rattle.printer.specs.declared.commands.ImageMode.{ImageMode}
 pub use Rattle.printer.specs.declared.commands.Opening.{Opening}
-pub use Rattle.printer.specs.declared.commands.Selected.{Selected}
 pub use Rattle.printer.specs.declared.commands.First.{First}
 pub use Rattle.printer.specs.declared.commands.Frame.{Frame}
 pub use Rattle.printer.specs.declared.commands.Listing.{Listing}

@@ -1,4 +1,4 @@
-// What the calls answer, with the answers' numbers.
+// What the calls answer, by the answers' numbers.
 ghost use Rattle.std.specs.Prelude.{◌≡◌};
 ghost use Rattle.printer.specs.Calls.{number_of};
 
@@ -6,11 +6,11 @@ use crate::state::Printer;
 
 #[derive(Clone, Copy)]
 pub enum Answer {
-    InputUsed,
-    AllowanceUsed,
-    OutputFull,
-    SettingsRefused,
-    StateRefused,
+    InputUsed = 0,
+    AllowanceUsed = 1,
+    OutputFull = 2,
+    SettingsRefused = 3,
+    StateRefused = 4,
 }
 
 impl Answer {
@@ -18,13 +18,7 @@ impl Answer {
     pub fn number(self) -> u8
         ensures { result ≡ number_of self }
     {
-        match self {
-            Answer::InputUsed => 0,
-            Answer::AllowanceUsed => 1,
-            Answer::OutputFull => 2,
-            Answer::SettingsRefused => 3,
-            Answer::StateRefused => 4,
-        }
+        self as u8
     }
 }
 

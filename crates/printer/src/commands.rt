@@ -27,17 +27,17 @@ pub enum Mode {
     UpperPrints(bool),
 }
 
-// The escapes with one argument byte that do: ESC 3 A + SP p x W !.
+// The escapes with one argument byte that do, by their codes: ESC 3 A + SP p x W !.
 #[derive(Clone, Copy)]
 pub enum Parameter {
-    Line180ths,
-    Line60ths,
-    Line360ths,
-    Spacing,
-    Proportional,
-    Quality,
-    DoubleWidth,
-    Master,
+    Line180ths = 0x33,
+    Line60ths = 0x41,
+    Line360ths = 0x2B,
+    Spacing = 0x20,
+    Proportional = 0x70,
+    Quality = 0x78,
+    DoubleWidth = 0x57,
+    Master = 0x21,
 }
 
 // The escapes without an argument that only show on a letter's record: ESC E F G H 4 5 T.
@@ -49,17 +49,17 @@ pub enum Switch {
     NoScript,
 }
 
-// The escapes with one argument byte that only show on a letter's record: ESC S - w q t k R %.
+// The escapes with one argument byte that only show on a letter's record, by their codes: ESC S - w q t k R %.
 #[derive(Clone, Copy)]
 pub enum Choice {
-    Script,
-    Underline,
-    DoubleHeight,
-    Outline,
-    CodeTable,
-    Font,
-    Country,
-    Download,
+    Script = 0x53,
+    Underline = 0x2D,
+    DoubleHeight = 0x77,
+    Outline = 0x71,
+    CodeTable = 0x74,
+    Font = 0x6B,
+    Country = 0x52,
+    Download = 0x25,
 }
 
 // What changes only how a letter's record looks.
@@ -69,36 +69,29 @@ pub enum Look {
     Choice(Choice, u8),
 }
 
-// The image commands that name no mode: ESC K L Y Z.
+// The image commands that name no mode, by their codes: ESC K L Y Z.
 #[derive(Clone, Copy)]
 pub enum Density {
-    Single,
-    Double,
-    DoubleSpeed,
-    Quadruple,
+    Single = 0x4B,
+    Double = 0x4C,
+    DoubleSpeed = 0x59,
+    Quadruple = 0x5A,
 }
 
-// The modes of images: 0 to 4 and 6, of eight dots a column, and 32, 33, 38, 39 and 40, of twenty-four.
+// The modes of images by their numbers: to 6 of eight dots a column, and from 32 of twenty-four.
 #[derive(Clone, Copy)]
 pub enum ImageMode {
-    Single,
-    Double,
-    DoubleSpeed,
-    Quadruple,
-    Crt80,
-    Crt90,
-    Single24,
-    Double24,
-    Crt24,
-    Triple24,
-    Hex24,
-}
-
-// The mode that ESC * selects.
-#[derive(Clone, Copy)]
-pub enum Selected {
-    Mode(ImageMode),
-    Unlisted,
+    Single = 0,
+    Double = 1,
+    DoubleSpeed = 2,
+    Quadruple = 3,
+    Crt80 = 4,
+    Crt90 = 6,
+    Single24 = 32,
+    Double24 = 33,
+    Crt24 = 38,
+    Triple24 = 39,
+    Hex24 = 40,
 }
 
 // What opens an image: ESC K, L, Y, Z; or ESC * and a mode.
@@ -108,11 +101,11 @@ pub enum Opening {
     Selected(ImageMode),
 }
 
-// The escapes that open a stop list by themselves: ESC D, ESC B.
+// The escapes that open a stop list by themselves, by their codes: ESC D, ESC B.
 #[derive(Clone, Copy)]
 pub enum Tabs {
-    Horizontal,
-    Vertical,
+    Horizontal = 0x44,
+    Vertical = 0x42,
 }
 
 // What opens a stop list: ESC D, ESC B; or ESC b and a channel.
@@ -136,11 +129,11 @@ pub enum Listing {
     Dropped,
 }
 
-// The margins: ESC l, ESC Q.
+// The margins, by their codes: ESC l, ESC Q.
 #[derive(Clone, Copy)]
 pub enum Side {
-    Left,
-    Right,
+    Left = 0x6C,
+    Right = 0x51,
 }
 
 // The page lengths: ESC C n, ESC C 0 n.
@@ -150,11 +143,11 @@ pub enum Page {
     Inches(u8),
 }
 
-// The moves by two argument bytes: ESC $, ESC \.
+// The moves by two argument bytes, by their codes: ESC $, ESC \.
 #[derive(Clone, Copy)]
 pub enum Move {
-    Absolute,
-    Relative,
+    Absolute = 0x24,
+    Relative = 0x5C,
 }
 
 // The bytes of a stop list: one that does not end it, and the one that does.

@@ -17,15 +17,17 @@ pub struct Setup {
     pub width: Units,
 }
 
-#[derive(Clone, Copy)]
+// How many letters stand in an inch.
+#[derive(Clone, Copy, Default)]
 pub enum Pitch {
-    Cpi10,
-    Cpi12,
-    Cpi15,
+    #[default]
+    Cpi10 = 10,
+    Cpi12 = 12,
+    Cpi15 = 15,
 }
 
 // What the width of a letter depends on. `wide` is ESC W 1, `wideonce` is SO.
-#[derive(Clone, Copy)]
+#[derive(Clone, Copy, Default)]
 pub struct Width {
     pub pitch: Pitch,
     pub spacing: u8,
@@ -35,7 +37,7 @@ pub struct Width {
     pub proportional: bool,
 }
 
-#[derive(Clone, Copy)]
+#[derive(Clone, Copy, Default)]
 pub struct Emphasis {
     pub bold: bool,
     pub doublestrike: bool,
@@ -43,14 +45,14 @@ pub struct Emphasis {
     pub underline: bool,
 }
 
-#[derive(Clone, Copy)]
+#[derive(Clone, Copy, Default)]
 pub struct Script {
     pub superscript: bool,
     pub subscript: bool,
 }
 
 // What else a letter's record shows. `outline` is the ESC q number.
-#[derive(Clone, Copy)]
+#[derive(Clone, Copy, Default)]
 pub struct Face {
     pub font: u8,
     pub country: u8,

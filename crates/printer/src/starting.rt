@@ -21,28 +21,26 @@ pub fn plain_start() -> StartSettings
 pub fn usable(settings: StartSettings) -> bool
     ensures { result ≡ usable settings }
 {
-    let dots = settings.resolution;
     let width = settings.width;
-    ((dots == 300) | (dots == 203))
-        & ((Printer::LEAST_WIDTH.0 <= width) & (width <= Printer::MOST_WIDTH.0))
+    matches!(settings.resolution, 203 | 300)
+        && (Printer::LEAST_WIDTH.0 <= width && width <= Printer::MOST_WIDTH.0)
 }
 
 fn resolution_of(dots: u32) -> Resolution
     ensures { result ≡ resolution_of dots }
 {
-    if dots == 203 {
-        return Resolution::Dots203;
+    match dots {
+        203 => Resolution::Dots203,
+        _ => Resolution::Dots300,
     }
-    Resolution::Dots300
 }
 
 // What ESC @ keeps.
 pub fn setup_of(settings: StartSettings) -> Setup
     ensures { result ≡ setup_of settings }
 {
-    let resolution = resolution_of(settings.resolution);
     Setup {
-        resolution,
+        resolution: resolution_of(settings.resolution),
         autofeed: settings.autofeed,
         width: Units(settings.width),
     }

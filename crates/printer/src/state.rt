@@ -3,7 +3,7 @@ ghost use Rattle.std.specs.Prelude.{◌≡◌};
 ghost use Rattle.printer.specs.PowerOn.{power_on, power_on_settings, power_on_stops, no_stops, no_channels};
 
 use crate::commands::Waiting;
-use crate::settings::{Emphasis, Face, Margins, Paper, Pitch, Script, Settings, Setup, Width};
+use crate::settings::{Emphasis, Face, Margins, Paper, Script, Settings, Setup, Width};
 use crate::stops::{Channels, Stops, TabStops};
 use crate::units::Units;
 
@@ -21,59 +21,25 @@ pub struct Printer {
     pub waiting: Waiting,
 }
 
-// 10 cpi, single width.
-fn power_on_width() -> Width
-    ensures { (t : Setup) → result ≡ (power_on_settings t).width }
-{
-    let pitch = Pitch::Cpi10;
-    Width {
-        pitch,
-        spacing: 0,
-        wide: false,
-        wideonce: false,
-        reduced: false,
-        proportional: false,
-    }
-}
-
-// Font and country 0, and no style.
-fn power_on_face() -> Face
-    ensures { (t : Setup) → result ≡ (power_on_settings t).face }
-{
-    Face {
-        font: 0,
-        country: 0,
-        outline: 0,
-        doubleheight: false,
-        italictable: false,
-        download: false,
-    }
-}
-
+// Each group but the margins and the paper begins as its default: 10 cpi, font and country 0, no style.
 fn power_on_settings(setup: Setup) -> Settings
     ensures { result ≡ power_on_settings setup }
 {
-    let left = Units(0);
-    let right = setup.width;
-    let page = Printer::POWER_ON_PAGE;
-    let skip = Units(0);
-    let line = Printer::POWER_ON_LINE;
     Settings {
         setup,
-        width: power_on_width(),
-        emphasis: Emphasis {
-            bold: false,
-            doublestrike: false,
-            italic: false,
-            underline: false,
+        width: Width::default(),
+        emphasis: Emphasis::default(),
+        script: Script::default(),
+        face: Face::default(),
+        margins: Margins {
+            left: Units(0),
+            right: setup.width,
         },
-        script: Script {
-            superscript: false,
-            subscript: false,
+        paper: Paper {
+            page: Printer::POWER_ON_PAGE,
+            skip: Units(0),
+            line: Printer::POWER_ON_LINE,
         },
-        face: power_on_face(),
-        margins: Margins { left, right },
-        paper: Paper { page, skip, line },
         draft: false,
         upperprints: true,
     }
@@ -82,8 +48,10 @@ fn power_on_settings(setup: Setup) -> Settings
 fn no_stops() -> TabStops
     ensures { result ≡ no_stops }
 {
-    let stops = [0; TabStops::ROOM];
-    TabStops { stops, count: 0 }
+    TabStops {
+        stops: [0; TabStops::ROOM],
+        count: 0,
+    }
 }
 
 // Horizontal stops at columns 8, 16 .. 72.
@@ -91,15 +59,7 @@ fn power_on_columns() -> TabStops
     ensures { result ≡ power_on_stops.columns }
 {
     let mut stops = [0; TabStops::ROOM];
-    stops[0] = 8;
-    stops[1] = 16;
-    stops[2] = 24;
-    stops[3] = 32;
-    stops[4] = 40;
-    stops[5] = 48;
-    stops[6] = 56;
-    stops[7] = 64;
-    stops[8] = 72;
+    stops[..9].copy_from_slice(&[8, 16, 24, 32, 40, 48, 56, 64, 72]);
     TabStops { stops, count: 9 }
 }
 
@@ -107,11 +67,9 @@ fn power_on_columns() -> TabStops
 fn no_channels() -> Channels
     ensures { result ≡ no_channels }
 {
-    let stops = [0; Channels::ROOM];
-    let counts = [0; Channels::NUMBER];
     Channels {
-        stops,
-        counts,
+        stops: [0; Channels::ROOM],
+        counts: [0; Channels::NUMBER],
         chosen: 0,
     }
 }

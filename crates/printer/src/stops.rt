@@ -24,11 +24,11 @@ pub struct Stops {
     pub gathered: TabStops,
 }
 
-// What a search among stops finds: the stop's number, counted from 1, and where it is.
+// A stop that a search finds: its number, counted from 1, and where it is.
 #[derive(Clone, Copy)]
-pub enum Stop {
-    Found(u32, Units),
-    Missing,
+pub struct Stop {
+    pub number: u32,
+    pub place: Units,
 }
 
 impl TabStops {

@@ -1,4 +1,6 @@
 // Lengths in units and in dots.
+ghost use Rattle.std.specs.Prelude.{◌≡◌};
+ghost use Rattle.printer.specs.Units.{per_inch_across, per_inch_down};
 
 // A length in units of 1/3600 inch.
 #[derive(Clone, Copy)]
@@ -23,4 +25,26 @@ pub struct Rounded {
 pub enum Resolution {
     Dots300,
     Dots203,
+}
+
+impl Resolution {
+    // The dots of an inch across.
+    pub fn dots_across(self) -> u32
+        ensures { result ≡ per_inch_across self }
+    {
+        match self {
+            Resolution::Dots300 => 300,
+            Resolution::Dots203 => 203,
+        }
+    }
+
+    // The dots of an inch down.
+    pub fn dots_down(self) -> u32
+        ensures { result ≡ per_inch_down self }
+    {
+        match self {
+            Resolution::Dots300 => 300,
+            Resolution::Dots203 => 200,
+        }
+    }
 }

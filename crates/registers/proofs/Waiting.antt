@@ -3,6 +3,7 @@ use Prim.Native.Nat.{ℕ, ◌+◌, ◌*◌, ◌%◌, ◌≤◌}
 use mathlib.Core.Path.{◌≡◌, refl}
 use mathlib.Core.Bool.{false}
 use mathlib.Core.List.{List, [], ◌∷◌, ◌++◌, map}
+use Rattle.std.specs.Prelude.{Option, Some, None}
 use native.Mathlib.Omega.{arith}
 use lib.Dec.{eqb}
 use denote.Enum.Declared.{tag_of}
@@ -16,8 +17,8 @@ use Rattle.printer.specs.Framing.{escapes, selected_of, second_frame, continued,
 use Rattle.printer.specs.Steps.{next_in}
 use Rattle.printer.specs.declared.commands.Begun.{Begun}
 use Rattle.printer.specs.declared.commands.Frame.{Frame}
+use Rattle.printer.specs.declared.commands.ImageMode.{ImageMode}
 use Rattle.printer.specs.declared.commands.Second.{Second}
-use Rattle.printer.specs.declared.commands.Selected.{Selected}
 use Rattle.printer.specs.declared.commands.Listing.{Listing}
 use Rattle.printer.specs.declared.commands.Tabs.{Tabs}
 use Rattle.printer.specs.declared.commands.Target.{Target}
@@ -53,6 +54,16 @@ left_out (s ∷ l) rest b h =
 pub begins-found : (b : ℕ) → begins b ≡ next (found (argument_escapes ++ other_escapes) b) b
 unfolding lookup coded frame escapes seconds plain_escapes argument_escapes other_escapes modes looks parameters choices
 begins-found b = left_out plain_escapes (argument_escapes ++ other_escapes) b refl
+
+-- no other than these two begins anything
+pub begins-nothing : (s : Second) (b : ℕ) → ((w : Begun) → s ≡ Second.Begins w → ⊥) → ((t : Tabs) → s ≡ Second.List t → ⊥) → Waiting.Nothing ≡ next s b
+begins-nothing (Second.Control c) b h k = refl
+begins-nothing Second.Reset b h k = refl
+begins-nothing (Second.Mode c) b h k = refl
+begins-nothing (Second.Switch w) b h k = refl
+begins-nothing (Second.Begins w) b h k = absurd (h w refl)
+begins-nothing (Second.List t) b h k = absurd (k t refl)
+begins-nothing Second.Unlisted b h k = refl
 
 -- nothing follows the argument of these places, by their numbers among all
 abbrev lasts : List ℕ
@@ -163,9 +174,9 @@ unfolding lookup
 told [] d b h k = h
 told (e ∷ l) d b h k = pick_elim WaitingTyped (eqb b e.0) (λ _. k.0) (λ _. told l d b h k.1)
 
-typed-imaged : (x : Selected) (k n : ℕ) → WaitingTyped (imaged_by x k n)
-typed-imaged (Selected.Mode m) k n = tt
-typed-imaged Selected.Unlisted k n = tt
+typed-imaged : (x : Option ImageMode) (k n : ℕ) → WaitingTyped (imaged_by x k n)
+typed-imaged (Some m) k n = tt
+typed-imaged None k n = tt
 
 pub waiting-typed : (m : List ℕ) → WaitingTyped (waiting_of (pending_in m))
 unfolding kinds frame

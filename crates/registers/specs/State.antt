@@ -1,6 +1,6 @@
 -- The state as registers and back: what is waited for as numbers, the printer that registers are read as, and whether they are
 -- those of a printer within its bounds.
-use Rattle.std.specs.Prelude.{ℕ, ◌%◌, ◌≤◌, Bool, true, false, ◌&&◌, List, [], ◌∷◌, eqb, get_or}
+use Rattle.std.specs.Prelude.{ℕ, ◌%◌, ◌≤◌, Bool, true, false, ◌&&◌, List, [], ◌∷◌, Option, Some, None, eqb, get_or}
 use Rattle.printer.specs.Accepted.{Typed}
 use Rattle.printer.specs.Bounds.{accepted}
 use Rattle.printer.specs.Codes.{second_code, image_mode_number, begun_by}
@@ -9,9 +9,9 @@ use Rattle.printer.specs.Steps.{next_in}
 use Rattle.printer.specs.Tools.{lookup}
 use Rattle.printer.specs.declared.commands.Begun.{Begun}
 use Rattle.printer.specs.declared.commands.Frame.{Frame}
+use Rattle.printer.specs.declared.commands.ImageMode.{ImageMode}
 use Rattle.printer.specs.declared.commands.Listing.{Listing}
 use Rattle.printer.specs.declared.commands.Second.{Second}
-use Rattle.printer.specs.declared.commands.Selected.{Selected}
 use Rattle.printer.specs.declared.commands.Tabs.{Tabs}
 use Rattle.printer.specs.declared.commands.Target.{Target}
 use Rattle.printer.specs.declared.commands.Waiting.{Waiting}
@@ -93,9 +93,9 @@ listed (Waiting.StopList k before) c b = listed_as k c b
 listed (Waiting.ImageData m k n) c b = Waiting.Nothing
 
 -- image data by its mode
-abbrev pub imaged_by : Selected → (k n : ℕ) → Waiting
-imaged_by (Selected.Mode m) k n = Waiting.ImageData m k n
-imaged_by Selected.Unlisted k n = Waiting.Nothing
+abbrev pub imaged_by : Option ImageMode → (k n : ℕ) → Waiting
+imaged_by (Some m) k n = Waiting.ImageData m k n
+imaged_by None k n = Waiting.Nothing
 
 abbrev pub imaged : (mode k n : ℕ) → Waiting
 imaged mode k n = imaged_by (selected_of mode) k n

@@ -1,7 +1,7 @@
 // What follows from the settings: style bits, advance, column width, advance in dots.
 ghost use Rattle.std.specs.Prelude.{◌≡◌, ◌≤◌};
 ghost use Rattle.registers.specs.Register.{download_at};
-ghost use Rattle.registers.specs.Keeping.{register_of, weight_of, shows, restyled, shown_stored, double_stored, widths_stored, measured};
+ghost use Rattle.registers.specs.Keeping.{register_of, shows, restyled, shown_stored, double_stored, widths_stored, measured};
 
 use crate::groups::{resolution_of, width_in};
 use crate::{
@@ -9,25 +9,26 @@ use crate::{
     DOWNLOAD, ITALIC, ITALIC_TABLE, OUTLINE, PROPORTIONAL, REDUCED, STYLE, SUBSCRIPT, SUPERSCRIPT,
     UNDERLINE, WIDE, WIDE_ONCE,
 };
-use measures::{rounding, widths};
+use measures::rounding::Exact;
+use measures::widths;
 use printer::settings::Width;
 use printer::units::Resolution;
 
-// A setting of one register that shows in the style bits.
+// A setting of one register that shows in the style bits, and the value of its lowest style bit.
 #[derive(Clone, Copy)]
 pub enum Shown {
-    Bold,
-    DoubleStrike,
-    Italic,
-    Underline,
-    Superscript,
-    Subscript,
-    DoubleHeight,
-    Outline,
-    Proportional,
-    Reduced,
-    ItalicTable,
-    Download,
+    Bold = 0x1,
+    DoubleStrike = 0x2,
+    Italic = 0x4,
+    Underline = 0x8,
+    Superscript = 0x10,
+    Subscript = 0x20,
+    DoubleHeight = 0x80,
+    Outline = 0x100,
+    Proportional = 0x400,
+    Reduced = 0x800,
+    ItalicTable = 0x1000,
+    Download = 0x2000,
 }
 
 fn register_of(k: Shown) -> usize
@@ -49,31 +50,11 @@ fn register_of(k: Shown) -> usize
     }
 }
 
-// The value of its lowest style bit.
-fn weight_of(k: Shown) -> u32
-    ensures { (result ≡ weight_of k) × (result ≤ 0x2000) }
-{
-    match k {
-        Shown::Bold => 0x1,
-        Shown::DoubleStrike => 0x2,
-        Shown::Italic => 0x4,
-        Shown::Underline => 0x8,
-        Shown::Superscript => 0x10,
-        Shown::Subscript => 0x20,
-        Shown::DoubleHeight => 0x80,
-        Shown::Outline => 0x100,
-        Shown::Proportional => 0x400,
-        Shown::Reduced => 0x800,
-        Shown::ItalicTable => 0x1000,
-        Shown::Download => 0x2000,
-    }
-}
-
 // What a number in its register shows.
 fn shows(k: Shown, n: u32) -> u32
     ensures { (result ≡ shows k n) × (result ≤ 0xFFFF) }
 {
-    n % 4 * weight_of(k)
+    n % 4 * k as u32
 }
 
 // The style bits by difference: less what a setting showed, and what it shows now.
@@ -85,6 +66,7 @@ fn keep_style(m: &mut [u32; COUNT], showed: u32, shows: u32)
 }
 
 // Stores a setting that shows, and its style bits.
+#[tactic(auto, unfolding(crate::specs::Keeping::shown_stored))]
 pub fn store_shown(m: &mut [u32; COUNT], k: Shown, n: u32)
     ensures { m.new ≡ shown_stored m.old k n }
 {
@@ -95,6 +77,7 @@ pub fn store_shown(m: &mut [u32; COUNT], k: Shown, n: u32)
 }
 
 // Double width has two registers, and shows if either is set.
+#[tactic(auto, unfolding(crate::specs::Keeping::double_stored))]
 pub fn store_double(m: &mut [u32; COUNT], wide: u32, once: u32)
     ensures { m.new ≡ double_stored m.old wide once }
 {
@@ -111,14 +94,15 @@ pub(crate) fn store_widths(m: &mut [u32; COUNT], resolution: Resolution, w: Widt
     let advance = widths::advance(w);
     m[ADVANCE] = advance.0;
     m[COLUMN_WIDTH] = widths::column_width(w).0;
-    m[ADVANCE_DOTS] = rounding::step(resolution, advance).0;
+    m[ADVANCE_DOTS] = Exact::step(resolution, advance).0;
 }
 
 // Stores those of the width in the registers.
+#[tactic(auto, unfolding(crate::specs::Keeping::measured))]
 pub fn keep_widths(m: &mut [u32; COUNT])
     ensures { m.new ≡ measured m.old }
 {
     let resolution = resolution_of(m[DOTS_ACROSS]);
-    let w = width_in(&*m);
+    let w = width_in(m);
     store_widths(m, resolution, w);
 }

@@ -17,38 +17,32 @@ use printer::units::{Resolution, Units};
 pub fn flag(on: bool) -> u32
     ensures { result ≡ flag on }
 {
-    if on { 1 } else { 0 }
+    u32::from(on)
 }
 
 pub fn pitch_number(p: Pitch) -> u32
     ensures { result ≡ pitch_number p }
 {
-    match p {
-        Pitch::Cpi10 => 10,
-        Pitch::Cpi12 => 12,
-        Pitch::Cpi15 => 15,
-    }
+    p as u32
 }
 
 fn pitch_of(n: u32) -> Pitch
     ensures { result ≡ pitch_of n }
 {
-    if n == 10 {
-        return Pitch::Cpi10;
+    match n {
+        10 => Pitch::Cpi10,
+        12 => Pitch::Cpi12,
+        _ => Pitch::Cpi15,
     }
-    if n == 12 {
-        return Pitch::Cpi12;
-    }
-    Pitch::Cpi15
 }
 
 pub fn resolution_of(n: u32) -> Resolution
     ensures { result ≡ resolution_of n }
 {
-    if n == 300 {
-        return Resolution::Dots300;
+    match n {
+        300 => Resolution::Dots300,
+        _ => Resolution::Dots203,
     }
-    Resolution::Dots203
 }
 
 pub fn place_in(m: &[u32; COUNT]) -> Place
@@ -63,9 +57,8 @@ pub fn place_in(m: &[u32; COUNT]) -> Place
 pub fn setup_in(m: &[u32; COUNT]) -> Setup
     ensures { result ≡ setup_in m.now }
 {
-    let resolution = resolution_of(m[DOTS_ACROSS]);
     Setup {
-        resolution,
+        resolution: resolution_of(m[DOTS_ACROSS]),
         autofeed: m[AUTO_FEED] == 1,
         width: Units(m[PAPER_WIDTH]),
     }
@@ -74,9 +67,8 @@ pub fn setup_in(m: &[u32; COUNT]) -> Setup
 pub fn width_in(m: &[u32; COUNT]) -> Width
     ensures { result ≡ width_in m.now }
 {
-    let pitch = pitch_of(m[PITCH]);
     Width {
-        pitch,
+        pitch: pitch_of(m[PITCH]),
         spacing: (m[SPACING] % 256) as u8,
         wide: m[WIDE] == 1,
         wideonce: m[WIDE_ONCE] == 1,
@@ -137,6 +129,7 @@ pub fn paper_in(m: &[u32; COUNT]) -> Paper
     }
 }
 
+#[tactic(auto, unfolding(crate::specs::Groups::settings_in))]
 pub fn settings_in(m: &[u32; COUNT]) -> Settings
     ensures { result ≡ settings_in m.now }
 {

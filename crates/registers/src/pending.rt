@@ -12,7 +12,7 @@ ghost use Rattle.registers.specs.State.{pending, escaped, pending_bytes, pending
 use crate::{ARGUMENT, COMMAND, COUNT, IMAGE_BYTE, IMAGE_COLUMNS, IMAGE_MODE, KIND};
 use framing::codes::BegunBytes;
 use framing::{codes, named_list};
-use printer::commands::{Begun, Listing, Second, Selected, Tabs, Target, Waiting};
+use printer::commands::{Begun, Listing, Second, Tabs, Target, Waiting};
 
 // A kind, the escape's second byte, the argument or list byte before; an image's mode or a list's channel, the byte of a column that comes, and the
 // columns left.
@@ -26,6 +26,18 @@ pub struct Pending {
     pub columns: u16,
 }
 
+impl Pending {
+    // Nothing is waited for. Of other kinds, what a kind does not use is so, too.
+    const NOTHING: Pending = Pending {
+        kind: 0,
+        command: 0,
+        argument: 0,
+        mode: 0,
+        part: 0,
+        columns: 0,
+    };
+}
+
 // Of an escape or a list.
 fn escaped(kind: u32, command: u8, argument: u8) -> Pending
     ensures { result ≡ escaped kind command argument }
@@ -34,62 +46,27 @@ fn escaped(kind: u32, command: u8, argument: u8) -> Pending
         kind,
         command,
         argument,
-        mode: 0,
-        part: 0,
-        columns: 0,
+        ..Pending::NOTHING
     }
 }
 
-// Of an escape whose first argument is an image's mode.
-fn selected(command: u8, mode: u8, argument: u8) -> Pending
-    ensures { result ≡ pending 6 command argument mode 0 0 }
+// The same with an image's mode, or with a list's channel.
+fn with_mode(kind: u32, command: u8, mode: u8, argument: u8) -> Pending
+    ensures { result ≡ pending kind command argument mode 0 0 }
 {
     Pending {
-        kind: 6,
-        command,
-        argument,
         mode,
-        part: 0,
-        columns: 0,
-    }
-}
-
-// Of a list that sets a channel.
-fn channel_list(command: u8, channel: u8, argument: u8) -> Pending
-    ensures { result ≡ pending 4 command argument channel 0 0 }
-{
-    Pending {
-        kind: 4,
-        command,
-        argument,
-        mode: channel,
-        part: 0,
-        columns: 0,
-    }
-}
-
-// Of image data.
-fn image(mode: u8, part: u8, columns: u16) -> Pending
-    ensures { result ≡ pending 5 0 0 mode part columns }
-{
-    Pending {
-        kind: 5,
-        command: 0,
-        argument: 0,
-        mode,
-        part,
-        columns,
+        ..escaped(kind, command, argument)
     }
 }
 
 fn pending_begun(w: Begun) -> Pending
     ensures { result ≡ pending_bytes (begun_by w) }
 {
-    let bytes = codes::begun_bytes(w);
-    match bytes {
+    match codes::begun_bytes(w) {
         BegunBytes::Code(code) => escaped(2, code, 0),
         BegunBytes::Argument(code, argument) => escaped(3, code, argument),
-        BegunBytes::Arguments(code, mode, argument) => selected(code, mode, argument),
+        BegunBytes::Arguments(code, mode, argument) => with_mode(6, code, mode, argument),
     }
 }
 
@@ -99,7 +76,7 @@ fn pending_target(t: Target, b: u8) -> Pending
 {
     match t {
         Target::Columns => escaped(4, codes::list_code(Tabs::Horizontal), b),
-        Target::Channel(c) => channel_list(codes::list_code(Tabs::Vertical), c, b),
+        Target::Channel(c) => with_mode(4, codes::list_code(Tabs::Vertical), c, b),
     }
 }
 
@@ -117,11 +94,17 @@ pub fn pending_of(w: Waiting) -> Pending
     ensures { result ≡ pending_of w }
 {
     match w {
-        Waiting::Nothing => escaped(0, 0, 0),
+        Waiting::Nothing => Pending::NOTHING,
         Waiting::SecondByte => escaped(1, 0, 0),
         Waiting::Arguments(b) => pending_begun(b),
         Waiting::StopList(k, b) => pending_list(k, b),
-        Waiting::ImageData(m, k, n) => image(codes::image_mode_number(m), k, n),
+        Waiting::ImageData(m, k, n) => Pending {
+            kind: 5,
+            mode: codes::image_mode_number(m),
+            part: k,
+            columns: n,
+            ..Pending::NOTHING
+        },
     }
 }
 
@@ -129,15 +112,10 @@ pub fn pending_of(w: Waiting) -> Pending
 fn begins(code: u8) -> Waiting
     ensures { result ≡ begins code }
 {
-    let second = codes::begun_of(code);
-    match second {
-        Second::Control(_) => Waiting::Nothing,
-        Second::Reset => Waiting::Nothing,
-        Second::Mode(_) => Waiting::Nothing,
-        Second::Switch(_) => Waiting::Nothing,
+    match codes::begun_of(code) {
         Second::Begins(w) => Waiting::Arguments(w),
         Second::List(t) => Waiting::StopList(named_list(t), 0),
-        Second::Unlisted => Waiting::Nothing,
+        _ => Waiting::Nothing,
     }
 }
 
@@ -156,8 +134,8 @@ fn mode_selected(b: u8) -> Waiting
     ensures { result ≡ argued Begun.SelectMode b }
 {
     match codes::selected_of(b) {
-        Selected::Mode(m) => Waiting::Arguments(Begun::ColumnsLow(m)),
-        Selected::Unlisted => Waiting::Nothing,
+        Some(m) => Waiting::Arguments(Begun::ColumnsLow(m)),
+        None => Waiting::Nothing,
     }
 }
 
@@ -166,12 +144,7 @@ fn argued(w: Begun, a: u8) -> Waiting
     ensures { result ≡ argued w a }
 {
     match w {
-        Begun::PageLength => {
-            if a == 0 {
-                return Waiting::Arguments(Begun::PageInches);
-            }
-            Waiting::Nothing
-        }
+        Begun::PageLength if a == 0 => Waiting::Arguments(Begun::PageInches),
         Begun::Advanced => advanced(a),
         Begun::FirstOf(c) => Waiting::Arguments(Begun::SecondOf(c, a)),
         Begun::SelectMode => mode_selected(a),
@@ -185,11 +158,8 @@ fn resumed(begun: Waiting, b: u8) -> Waiting
     ensures { result ≡ resumed begun b }
 {
     match begun {
-        Waiting::Nothing => Waiting::Nothing,
-        Waiting::SecondByte => Waiting::Nothing,
         Waiting::Arguments(w) => argued(w, b),
-        Waiting::StopList(_, _) => Waiting::Nothing,
-        Waiting::ImageData(_, _, _) => Waiting::Nothing,
+        _ => Waiting::Nothing,
     }
 }
 
@@ -216,11 +186,8 @@ fn listed(begun: Waiting, channel: u8, b: u8) -> Waiting
     ensures { result ≡ listed begun channel b }
 {
     match begun {
-        Waiting::Nothing => Waiting::Nothing,
-        Waiting::SecondByte => Waiting::Nothing,
-        Waiting::Arguments(_) => Waiting::Nothing,
         Waiting::StopList(k, _) => listed_as(k, channel, b),
-        Waiting::ImageData(_, _, _) => Waiting::Nothing,
+        _ => Waiting::Nothing,
     }
 }
 
@@ -229,18 +196,18 @@ fn imaged(mode: u8, k: u8, n: u16) -> Waiting
     ensures { result ≡ imaged mode k n }
 {
     match codes::selected_of(mode) {
-        Selected::Mode(m) => Waiting::ImageData(m, k, n),
-        Selected::Unlisted => Waiting::Nothing,
+        Some(m) => Waiting::ImageData(m, k, n),
+        None => Waiting::Nothing,
     }
 }
 
 // The kinds of an escape whose second byte was received.
+#[tactic(auto, unfolding(crate::specs::State::kinds, printer::specs::Tools::lookup))]
 fn waiting_begun(v: Pending) -> Waiting
     ensures { result ≡ lookup (drop 2 (kinds (begins v.command) v)) Waiting.Nothing v.kind }
 {
     let begun = begins(v.command);
-    let kind = v.kind;
-    match kind {
+    match v.kind {
         2 => begun,
         3 => resumed(begun, v.argument),
         4 => listed(begun, v.mode, v.argument),
@@ -252,11 +219,11 @@ fn waiting_begun(v: Pending) -> Waiting
 }
 
 // What the numbers are read as.
+#[tactic(auto, unfolding(crate::specs::State::kinds, printer::specs::Tools::lookup))]
 pub(crate) fn waiting_of(v: Pending) -> Waiting
     ensures { result ≡ waiting_of v }
 {
-    let kind = v.kind;
-    match kind {
+    match v.kind {
         0 => Waiting::Nothing,
         1 => Waiting::SecondByte,
         _ => waiting_begun(v),

@@ -5,7 +5,7 @@ ghost use Rattle.registers.specs.Layout.{words};
 ghost use Rattle.registers.specs.Stores.{stores, over, stale_in, power_on_cells, column_cells, restarted};
 
 use crate::derived::keep_widths;
-use crate::stores::{store_setup, whole};
+use crate::stores::store_setup;
 use crate::{
     ACROSS, CHANNEL_STOPS, COLUMN_COUNT, COLUMN_STOPS, COUNT, LINE, PAGE, PITCH, RIGHT,
     UPPER_PRINTS,
@@ -19,12 +19,7 @@ fn clear(m: &mut [u32; COUNT], from: usize, to: usize)
     requires { (from ≤ to) × (to ≤ register_count) }
     ensures { m.new ≡ over from (replicate (to - from) 0) m.old }
 {
-    let n = whole(&*m);
-    let mut i: usize = from;
-    while i < to {
-        m[i] = 0;
-        i += 1;
-    }
+    m[from..to].fill(0);
 }
 
 // The places of the channels are 0.
@@ -49,27 +44,18 @@ fn store_settings(m: &mut [u32; COUNT], width: Units)
 fn store_columns(m: &mut [u32; COUNT])
     ensures { m.new ≡ stores column_cells m.old }
 {
+    let columns = [8, 16, 24, 32, 40, 48, 56, 64, 72];
     m[COLUMN_COUNT] = 9;
-    m[COLUMN_STOPS] = 8;
-    m[COLUMN_STOPS + 1] = 16;
-    m[COLUMN_STOPS + 2] = 24;
-    m[COLUMN_STOPS + 3] = 32;
-    m[COLUMN_STOPS + 4] = 40;
-    m[COLUMN_STOPS + 5] = 48;
-    m[COLUMN_STOPS + 6] = 56;
-    m[COLUMN_STOPS + 7] = 64;
-    m[COLUMN_STOPS + 8] = 72;
+    m[COLUMN_STOPS..COLUMN_STOPS + 9].copy_from_slice(&columns);
 }
 
 // Stores it over all but what is waited for and the places of the channels, which were never set.
 pub fn power_on(m: &mut [u32; COUNT], setup: Setup)
     ensures { m.new ≡ words (stale_in m.old) (restarted setup (drop channel_stops_at m.old)) }
 {
-    let n = whole(&*m);
-    let width = setup.width;
-    clear(&mut *m, ACROSS, CHANNEL_STOPS);
-    store_setup(&mut *m, setup);
-    store_settings(&mut *m, width);
-    store_columns(&mut *m);
+    clear(m, ACROSS, CHANNEL_STOPS);
+    store_setup(m, setup);
+    store_settings(m, setup.width);
+    store_columns(m);
     keep_widths(m);
 }

@@ -1,7 +1,5 @@
 // Groups of the state stored in their registers.
-ghost use Rattle.std.specs.Prelude.{◌≡◌, length};
-ghost use Rattle.printer.specs.Units.{per_inch_across, per_inch_down};
-ghost use Rattle.registers.specs.Register.{register_count};
+ghost use Rattle.std.specs.Prelude.{◌≡◌};
 ghost use Rattle.registers.specs.Stores.{stores, place_cells, length_cells, setup_cells, width_cells, emphasis_cells, face_cells, printing_cells, derived_cells, settings_stored};
 
 use crate::derived::store_widths;
@@ -15,33 +13,6 @@ use crate::{
 use measures::styles::style_of;
 use printer::settings::{Emphasis, Face, Margins, Paper, Script, Settings, Setup, Width};
 use printer::state::Place;
-use printer::units::Resolution;
-
-// How many registers there are: lent as a slice, an array tells its length to a proof.
-pub fn whole(m: &[u32; COUNT]) -> usize
-    ensures { (result ≡ register_count) × (length m.now ≡ register_count) }
-{
-    let all = &m[..];
-    all.len()
-}
-
-pub fn dots_across(r: Resolution) -> u32
-    ensures { result ≡ per_inch_across r }
-{
-    match r {
-        Resolution::Dots300 => 300,
-        Resolution::Dots203 => 203,
-    }
-}
-
-pub fn dots_down(r: Resolution) -> u32
-    ensures { result ≡ per_inch_down r }
-{
-    match r {
-        Resolution::Dots300 => 300,
-        Resolution::Dots203 => 200,
-    }
-}
 
 pub(crate) fn store_place(m: &mut [u32; COUNT], x: Place)
     ensures { m.new ≡ stores (place_cells x) m.old }
@@ -63,9 +34,8 @@ fn store_lengths(m: &mut [u32; COUNT], x: Margins, y: Paper)
 pub(crate) fn store_setup(m: &mut [u32; COUNT], s: Setup)
     ensures { m.new ≡ stores (setup_cells s) m.old }
 {
-    let resolution = s.resolution;
-    m[DOTS_ACROSS] = dots_across(resolution);
-    m[DOTS_DOWN] = dots_down(resolution);
+    m[DOTS_ACROSS] = s.resolution.dots_across();
+    m[DOTS_DOWN] = s.resolution.dots_down();
     m[AUTO_FEED] = flag(s.autofeed);
     m[PAPER_WIDTH] = s.width.0;
 }
@@ -73,8 +43,7 @@ pub(crate) fn store_setup(m: &mut [u32; COUNT], s: Setup)
 fn store_width(m: &mut [u32; COUNT], w: Width)
     ensures { m.new ≡ stores (width_cells w) m.old }
 {
-    let pitch = w.pitch;
-    m[PITCH] = pitch_number(pitch);
+    m[PITCH] = pitch_number(w.pitch);
     m[SPACING] = w.spacing as u32;
     m[WIDE] = flag(w.wide);
     m[WIDE_ONCE] = flag(w.wideonce);
@@ -115,29 +84,20 @@ fn store_printing(m: &mut [u32; COUNT], draft: bool, upperprints: bool)
 fn store_derived(m: &mut [u32; COUNT], s: Settings)
     ensures { m.new ≡ stores (derived_cells s) m.old }
 {
-    let setup = s.setup;
-    let width = s.width;
-    let resolution = setup.resolution;
     m[STYLE] = style_of(s) as u32;
-    store_widths(m, resolution, width);
+    store_widths(m, s.setup.resolution, s.width);
 }
 
 // The settings, with what follows from them.
+#[tactic(auto, unfolding(crate::specs::Stores::settings_stored))]
 pub(crate) fn store_settings(m: &mut [u32; COUNT], s: Settings)
     ensures { m.new ≡ settings_stored s m.old }
 {
-    let margins = s.margins;
-    let paper = s.paper;
-    let setup = s.setup;
-    let width = s.width;
-    let emphasis = s.emphasis;
-    let script = s.script;
-    let face = s.face;
-    store_lengths(&mut *m, margins, paper);
-    store_setup(&mut *m, setup);
-    store_width(&mut *m, width);
-    store_emphasis(&mut *m, emphasis, script);
-    store_face(&mut *m, face);
-    store_printing(&mut *m, s.draft, s.upperprints);
+    store_lengths(m, s.margins, s.paper);
+    store_setup(m, s.setup);
+    store_width(m, s.width);
+    store_emphasis(m, s.emphasis, s.script);
+    store_face(m, s.face);
+    store_printing(m, s.draft, s.upperprints);
     store_derived(m, s);
 }

@@ -1,12 +1,13 @@
 -- Reading back finds what the forward reading finds.
 use Prim.Native.Nat.{ℕ, zero, suc, ◌+◌, ◌-◌, ◌*◌, ◌/◌, ◌%◌, ◌<◌, ◌≤◌}
 use native.Mathlib.Omega.{arith}
-use mathlib.Core.Path.{◌≡◌, refl, sym, ap, subst, ◌∙◌}
+use mathlib.Core.Path.{◌≡◌, refl, sym, ap, ◌∙◌}
 use mathlib.Core.Bool.{Bool, true, false}
 use mathlib.Core.List.{List, [], ◌∷◌}
 use native.Mathlib.Nat.{add-sub_cancel_left}
 use Rattle.printer.proofs.Frames.{clash}
 use lib.Dec.{eqb}
+use Rattle.std.specs.Prelude.{Some, None, Ok, Err}
 use borrow.Author.Tests.{eq-eqb, ne_eqb}
 use lib.ListN.{length, take, drop}
 use Rattle.printer.specs.Tools.{within}
@@ -15,70 +16,40 @@ use Rattle.printer.specs.Decoding.{decoded}
 use Rattle.printer.specs.declared.records.Mark.{Mark}
 use Rattle.printer.specs.declared.records.Record.{Record}
 use Rattle.printer.proofs.Choices.{pick_elim, within_fact}
-use Rattle.slot.specs.Back.{left, stands, turns, voids}
-use Rattle.slot.specs.Slot.{letter_seen, feed_seen, seen_as, seen_in, seen_of, Found, nothing, standing, next, forward, found, seen_at, record_at, part_with, found_part, part_of}
-use Rattle.slot.specs.declared.Part.{Part}
+use Rattle.slot.specs.Back.{left}
+use Rattle.slot.specs.Slot.{letter_seen, feed_seen, seen_as, seen_in, seen_of, Found, nothing, or_else, standing, next, forward, found, seen_at, record_at, place_found, part, found_part, length_refused, part_of}
 use Rattle.slot.specs.declared.Seen.{Seen}
-use Rattle.slot.specs.declared.SlotAnswer.{SlotAnswer}
 
--- one record back, where it is not the answer, and where it is
-next-left : (s : Seen) (void : Bool) (k : ℕ) (v : Found) → stands s void ≡ false → turns s ≡ false
-    → left void (next s k v) ≡ left (voids s void) v
-next-left Seen.Letter true k v e f = refl
-next-left Seen.Letter false k v e f = absurd (clash cc)
-next-left Seen.Line true k v e f = refl
-next-left Seen.Line false k v e f = refl
-next-left Seen.Page void k v e f = absurd (clash cc)
-next-left Seen.Clear true k v e f = refl
-next-left Seen.Clear false k v e f = refl
-next-left Seen.Other void k v e f = refl
-
-next-stands : (s : Seen) (void : Bool) (k : ℕ) (v : Found) → stands s void ≡ true → left void (next s (suc k) v) ≡ suc k
-next-stands Seen.Letter true k v e = absurd (clash cc)
-next-stands Seen.Letter false k v e = refl
-next-stands Seen.Line void k v e = absurd (clash cc)
-next-stands Seen.Page void k v e = absurd (clash cc)
-next-stands Seen.Clear void k v e = absurd (clash cc)
-next-stands Seen.Other void k v e = absurd (clash cc)
-
-next-turns : (s : Seen) (void : Bool) (k : ℕ) (v : Found) → turns s ≡ true → left void (next s k v) ≡ 0
-next-turns Seen.Letter void k v e = absurd (clash cc)
-next-turns Seen.Line void k v e = absurd (clash cc)
-next-turns Seen.Page true k v e = refl
-next-turns Seen.Page false k v e = refl
-next-turns Seen.Clear void k v e = absurd (clash cc)
-next-turns Seen.Other void k v e = absurd (clash cc)
-
--- the same of the first k records, the last of which is s
-pub on : (f : ℕ → Seen) (k : ℕ) (void : Bool) (s : Seen) → 0 < k → s ≡ f (k - 1) → stands s void ≡ false → turns s ≡ false
-    → left void (forward f k) ≡ left (voids s void) (forward f (k - 1))
+-- nothing of the first k records but the last
+last : (f : ℕ → Seen) (k : ℕ) → 0 < k → forward f k ≡ next (f (k - 1)) k (forward f (k - 1))
 unfolding forward
-on f zero void s h q e g = absurd (omega arith)
-on f (suc k) void s h q e g =
-    let p : suc k - 1 ≡ k = omega arith in
-    rw p (subst (λ (t : Seen). left void (next t (suc k) (forward f k)) ≡ left (voids s void) (forward f k)) (q ∙ ap f p) (next-left s void (suc k) (forward f k) e g))
+last f zero p = absurd (omega arith)
+last f (suc k) p = let e : suc k - 1 ≡ k = omega arith in rw e
 
-pub stop : (f : ℕ → Seen) (k : ℕ) (void : Bool) (s : Seen) → 0 < k → s ≡ f (k - 1) → stands s void ≡ true
-    → left void (forward f k) ≡ k
-unfolding forward
-stop f zero void s h q e = absurd (omega arith)
-stop f (suc k) void s h q e =
-    let p : suc k - 1 ≡ k = omega arith in
-    subst (λ (t : Seen). left void (next t (suc k) (forward f k)) ≡ suc k) (q ∙ ap f p) (next-stands s void k (forward f k) e)
+-- what a record leaves to find of those before it
+left-line : (void : Bool) (k : ℕ) (v : Found) → left void (next Seen.Line k v) ≡ standing v
+left-line true k v = refl
+left-line false k v = refl
 
-pub turn : (f : ℕ → Seen) (k : ℕ) (void : Bool) (s : Seen) → 0 < k → s ≡ f (k - 1) → turns s ≡ true
-    → left void (forward f k) ≡ 0
-unfolding forward
-turn f zero void s h q e = absurd (omega arith)
-turn f (suc k) void s h q e =
-    let p : suc k - 1 ≡ k = omega arith in
-    subst (λ (t : Seen). left void (next t (suc k) (forward f k)) ≡ 0) (q ∙ ap f p) (next-turns s void (suc k) (forward f k) e)
+left-page : (void : Bool) (k : ℕ) (v : Found) → left void (next Seen.Page k v) ≡ 0
+left-page true k v = refl
+left-page false k v = refl
 
-pub none : (f : ℕ → Seen) (k : ℕ) (void : Bool) → k ≡ 0 → left void (forward f k) ≡ 0
-unfolding forward
-none f zero true h = refl
-none f zero false h = refl
-none f (suc k) void h = absurd (omega arith)
+left-clear : (void : Bool) (k : ℕ) (v : Found) → left void (next Seen.Clear k v) ≡ v.kept
+left-clear true k v = refl
+left-clear false k v = refl
+
+or-else-above : (k m : ℕ) → 0 < k → or_else k m ≡ k
+or-else-above zero m p = absurd (omega arith)
+or-else-above (suc k) m p = refl
+
+place-before : (k : ℕ) → 0 < k → Some (k - 1) ≡ place_found k
+place-before zero p = absurd (omega arith)
+place-before (suc k) p = let e : suc k - 1 ≡ k = omega arith in rw e
+
+none_before : (void : Bool) → left void nothing ≡ 0
+none_before true = refl
+none_before false = refl
 
 -- with a above b nothing is found
 no-letter : (s : Seen) (k : ℕ) (v : Found) → (s ≡ Seen.Letter → ⊥) → v ≡ nothing → next s k v ≡ nothing
@@ -127,54 +98,69 @@ crossed a b l h =
 abbrev pub Left : (a b : ℕ) → List ℕ → ℕ → Bool → Type 0
 Left a b l k void = (record_size * k ≤ length l) × (found a b l ≡ left void (forward (seen_at a b l) k))
 
--- where the k-th record begins
-abbrev pub place_of : ℕ → ℕ
-place_of k = record_size * (k - 1)
+module _ (a b : ℕ) (l : List ℕ) where
+  pub crossed_place : b < a → None ≡ place_found (found a b l)
+  crossed_place h = ap place_found (sym (crossed a b l h))
 
--- what the bytes from a place on are, as many as a record has
-abbrev Here : (a b : ℕ) → List ℕ → (at : ℕ) → Seen → Type 0
-Here a b l at s = s ≡ seen_of a b (take (at + record_size - at) (drop at l))
+  pub none_left : (k : ℕ) (void : Bool) → Left a b l k void → k ≤ 0 → None ≡ place_found (found a b l)
+  unfolding forward
+  none_left zero void h p = ap place_found (sym (h.1 ∙ none_before void))
+  none_left (suc k) void h p = absurd (omega (arith, p))
 
-here : (a b : ℕ) (l : List ℕ) (k : ℕ) (s : Seen) → Here a b l (place_of k) s → s ≡ seen_at a b l (k - 1)
-here a b l k s e = rw add-sub_cancel_left at e
+  module _ (k : ℕ) (void : Bool) (h : Left a b l k void) (p : 0 < k) where
+    -- the bytes of the last of the k records are these to the question
+    abbrev Here : Seen → Type 0
+    Here s = let at = record_size * (k - 1) in s ≡ seen_of a b (take (at + record_size - at) (drop at l))
 
-pub goes_on : (a b : ℕ) (l : List ℕ) (k : ℕ) (void : Bool) (s : Seen) → Left a b l k void → 0 < k → Here a b l (place_of k) s
-    → stands s void ≡ false → turns s ≡ false → {after : Bool} → after ≡ voids s void → Left a b l (k - 1) after
-goes_on a b l k void s h p e q r v =
-    (omega (arith, h.0), rw v (h.1 ∙ on (seen_at a b l) k void s p (here a b l k s e) q r))
+    seen : (s : Seen) → Here s → found a b l ≡ left void (next s k (forward (seen_at a b l) (k - 1)))
+    seen s e =
+        let f = seen_at a b l in
+        let g : s ≡ f (k - 1) = rw add-sub_cancel_left at e in
+        rw g (h.1 ∙ ap (left void) (last f k p))
 
-pub stands_here : (a b : ℕ) (l : List ℕ) (k : ℕ) (void : Bool) (s : Seen) → Left a b l k void → 0 < k → Here a b l (place_of k) s
-    → stands s void ≡ true → k ≡ found a b l
-stands_here a b l k void s h p e q = sym (h.1 ∙ stop (seen_at a b l) k void s p (here a b l k s e) q)
+    room : record_size * (k - 1) ≤ length l
+    room = omega (arith, h.0)
 
-pub turns-here : (a b : ℕ) (l : List ℕ) (k : ℕ) (void : Bool) (s : Seen) → Left a b l k void → 0 < k → Here a b l (place_of k) s
-    → turns s ≡ true → 0 ≡ found a b l
-turns-here a b l k void s h p e q = sym (h.1 ∙ turn (seen_at a b l) k void s p (here a b l k s e) q)
+    pub stands_here : void ≡ false → Here Seen.Letter → Some (k - 1) ≡ place_found (found a b l)
+    stands_here t e =
+        place-before k p ∙ ap place_found (sym (rw t at (seen Seen.Letter e) ∙ or-else-above k _ p))
 
-pub none_left : (a b : ℕ) (l : List ℕ) (k : ℕ) (void : Bool) → Left a b l k void → k ≤ 0 → 0 ≡ found a b l
-none_left a b l k void h p = sym (h.1 ∙ none (seen_at a b l) k void (omega (arith, p)))
+    pub turns_here : Here Seen.Page → None ≡ place_found (found a b l)
+    turns_here e = ap place_found (sym (seen Seen.Page e ∙ left-page void k (forward (seen_at a b l) (k - 1))))
+
+    pub void_letter : void ≡ true → Here Seen.Letter → Left a b l (k - 1) void
+    void_letter t e = rw t (room, rw t at (seen Seen.Letter e))
+
+    pub line_on : Here Seen.Line → Left a b l (k - 1) false
+    line_on e = (room, seen Seen.Line e ∙ left-line void k (forward (seen_at a b l) (k - 1)))
+
+    pub clear_on : Here Seen.Clear → Left a b l (k - 1) true
+    clear_on e = (room, seen Seen.Clear e ∙ left-clear void k (forward (seen_at a b l) (k - 1)))
+
+    pub other_on : Here Seen.Other → Left a b l (k - 1) void
+    other_on e = (room, seen Seen.Other e)
 
 -- What comes back
 
-pub ragged : (a b : ℕ) (l : List ℕ) → (length l % record_size ≡ 0 → ⊥) → part_with SlotAnswer.LengthRefused 0 0 ≡ part_of a b l
+pub ragged : (a b : ℕ) (l : List ℕ) → (length l % record_size ≡ 0 → ⊥) → Err length_refused ≡ part_of a b l
 unfolding part_of
 ragged a b l h = rw (ne_eqb (length l % record_size) 0 h)
 
-answered : (a b : ℕ) (l : List ℕ) → length l % record_size ≡ 0 → found_part (found a b l) ≡ part_of a b l
+answered : (a b : ℕ) (l : List ℕ) → length l % record_size ≡ 0 → Ok (found_part (found a b l)) ≡ part_of a b l
 unfolding part_of
 answered a b l h = rw (eq-eqb (length l % record_size) 0 h)
 
-pub nothing-found : (a b : ℕ) (l : List ℕ) (k : ℕ) → length l % record_size ≡ 0 → k ≡ found a b l → k ≡ 0
-    → part_with SlotAnswer.Answered 0 0 ≡ part_of a b l
-nothing-found a b l k h e z = ap found_part (sym z ∙ e) ∙ answered a b l h
+part-at : (n i : ℕ) → Some i ≡ place_found n → part (record_size * i) record_size ≡ found_part n
+part-at zero i e = absurd (clash cc)
+part-at (suc n) i e = let g : i ≡ n = cc in rw g
 
--- the k-th record
-abbrev pub nth : ℕ → Part
-nth k = part_with SlotAnswer.Answered (place_of k) record_size
+no-part : (n : ℕ) → None ≡ place_found n → part 0 0 ≡ found_part n
+no-part zero e = refl
+no-part (suc n) e = absurd (clash cc)
 
-nth-found : (k : ℕ) → (k ≡ 0 → ⊥) → nth k ≡ found_part k
-nth-found zero h = absurd (h refl)
-nth-found (suc i) h = let p : suc i - 1 ≡ i = omega arith in rw p
+module _ (a b : ℕ) (l : List ℕ) (h : length l % record_size ≡ 0) where
+  pub found_here : (i : ℕ) → Some i ≡ place_found (found a b l) → Ok (part (record_size * i) record_size) ≡ part_of a b l
+  found_here i e = ap Ok (part-at (found a b l) i e) ∙ answered a b l h
 
-pub found_here : (a b : ℕ) (l : List ℕ) (k : ℕ) → length l % record_size ≡ 0 → k ≡ found a b l → (k ≡ 0 → ⊥) → nth k ≡ part_of a b l
-found_here a b l k h e z = nth-found k z ∙ ap found_part e ∙ answered a b l h
+  pub nothing-found : None ≡ place_found (found a b l) → Ok (part 0 0) ≡ part_of a b l
+  nothing-found e = ap Ok (no-part (found a b l) e) ∙ answered a b l h

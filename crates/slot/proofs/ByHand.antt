@@ -8,7 +8,10 @@ use Rattle.printer.specs.Records.{record_size, plain_record, clear_record, passe
 use Rattle.printer.specs.Decoding.{marks_of, decoded}
 use Rattle.printer.specs.declared.records.Mark.{Mark}
 use Rattle.printer.specs.declared.records.Record.{Record}
-use Rattle.slot.specs.Slot.{seen_of, forward, found, part_of, standing_in, number_of}
+use Rattle.slot.specs.Slot.{seen_of, forward, found, part, length_refused, part_of, part_given, number_of, standing_in}
+use Rattle.slot.specs.declared.LengthRefused.{LengthRefused}
+use Rattle.slot.specs.declared.Part.{Part}
+use Rattle.std.specs.Prelude.{Result, Ok, Err}
 
 -- a letter at a column, its row and byte other numbers; an LN by its pages; a CL; a NO
 abbrev tx : (column : ℕ) → Record
@@ -105,23 +108,24 @@ pub unknown : found 10 20 (encoded (tx 10) ++ replicate record_size 67 ++ encode
 unfolding encoded marks_of decoded seen_of forward
 unknown = refl
 
--- what comes back: the record's bytes, where they begin, and the number
-abbrev stands : List ℕ → List ℕ → (start : ℕ) → (number : ℕ) → Type 0
-stands l bytes start number =
-    (standing_in 10 20 l ≡ bytes) × ((part_of 10 20 l).start ≡ start) × (number_of (part_of 10 20 l).answer ≡ number)
+-- what comes back: the record's bytes, the part that they are, and the number
+abbrev stands : List ℕ → List ℕ → Result Part LengthRefused → (start length : ℕ) → (number : ℕ) → Type 0
+stands l bytes told start length number =
+    (standing_in 10 20 l ≡ bytes) × (part_of 10 20 l ≡ told) × (part_given (part_of 10 20 l) ≡ part start length)
+    × (number_of (part_of 10 20 l) ≡ number)
 
-pub comes_back : stands (encoded_all (ln 0 ∷ tx 12 ∷ no ∷ [])) (encoded (tx 12)) record_size 0
+pub comes_back : stands (encoded_all (ln 0 ∷ tx 12 ∷ no ∷ [])) (encoded (tx 12)) (Ok (part record_size record_size)) record_size record_size 0
 unfolding encoded encoded_all marks_of decoded seen_of forward part_of
-comes_back = (refl, refl, refl)
+comes_back = (refl, refl, refl, refl)
 
-pub none : stands (encoded_all (ln 0 ∷ tx 9 ∷ no ∷ [])) [] 0 0
+pub none : stands (encoded_all (ln 0 ∷ tx 9 ∷ no ∷ [])) [] (Ok (part 0 0)) 0 0 0
 unfolding encoded encoded_all marks_of decoded seen_of forward part_of
-none = (refl, refl, refl)
+none = (refl, refl, refl, refl)
 
-pub empty : stands [] [] 0 0
+pub empty : stands [] [] (Ok (part 0 0)) 0 0 0
 unfolding forward part_of
-empty = (refl, refl, refl)
+empty = (refl, refl, refl, refl)
 
-pub ragged : stands (65 ∷ encoded (tx 12)) [] 0 5
+pub ragged : stands (65 ∷ encoded (tx 12)) [] (Err length_refused) 0 0 5
 unfolding encoded part_of
-ragged = (refl, refl, refl)
+ragged = (refl, refl, refl, refl)

@@ -1,4 +1,3 @@
-pub mod Sights
 pub mod Backward
 pub mod Surviving
 pub mod ByHand

@@ -1,5 +1,5 @@
 -- Document 02, E2: what stands under a slot, by a forward reading of the whole list.
-use Rattle.std.specs.Prelude.{ℕ, zero, suc, ◌*◌, ◌/◌, ◌%◌, Bool, List, [], ◌∷◌, eqb, length, take, drop}
+use Rattle.std.specs.Prelude.{ℕ, zero, suc, ◌*◌, ◌/◌, ◌%◌, Bool, List, [], ◌∷◌, eqb, length, take, drop, Option, Some, None, Result, Ok, Err}
 use Rattle.printer.specs.Tools.{pick, within}
 use Rattle.printer.specs.Records.{record_size}
 use Rattle.printer.specs.Decoding.{decoded}
@@ -7,7 +7,7 @@ use Rattle.printer.specs.declared.records.Mark.{Mark}
 use Rattle.printer.specs.declared.records.Record.{Record}
 use Rattle.slot.specs.declared.Part.{Part}
 use Rattle.slot.specs.declared.Seen.{Seen}
-use Rattle.slot.specs.declared.SlotAnswer.{SlotAnswer}
+use Rattle.slot.specs.declared.LengthRefused.{LengthRefused}
 
 -- What a record is to the question
 
@@ -77,31 +77,44 @@ forward f (suc n) = next (f n) (suc n) (forward f n)
 abbrev pub found : (a b : ℕ) → List ℕ → ℕ
 found a b l = standing (forward (seen_at a b l) (length l / record_size))
 
+-- the place that such a number stands for
+abbrev pub place_found : ℕ → Option ℕ
+place_found zero = None
+place_found (suc i) = Some i
+
 -- What comes back
 
 -- the length is a multiple of the record size
 abbrev pub whole : List ℕ → Bool
 whole l = eqb (length l % record_size) 0
 
-abbrev pub part_with : SlotAnswer → (start length : ℕ) → Part
-part_with v start length = record { answer = v; start = start; length = length }
+abbrev pub part : (start length : ℕ) → Part
+part start length = record { start = start; length = length }
 
 -- the record that a number stands for; an empty part is at the list's beginning
 abbrev pub found_part : ℕ → Part
-found_part zero = part_with SlotAnswer.Answered 0 0
-found_part (suc i) = part_with SlotAnswer.Answered (record_size * i) record_size
+found_part zero = part 0 0
+found_part (suc i) = part (record_size * i) record_size
 
-unfoldable pub part_of : (a b : ℕ) → List ℕ → Part
-part_of a b l = pick (whole l) (found_part (found a b l)) (part_with SlotAnswer.LengthRefused 0 0)
+abbrev pub length_refused : LengthRefused
+length_refused = record {}
+
+unfoldable pub part_of : (a b : ℕ) → List ℕ → Result Part LengthRefused
+part_of a b l = pick (whole l) (Ok (found_part (found a b l))) (Err length_refused)
+
+-- the part that is given, empty where the list is refused
+abbrev pub part_given : Result Part LengthRefused → Part
+part_given (Ok p) = p
+part_given (Err e) = part 0 0
+
+-- the number of the answer
+abbrev pub number_of : Result Part LengthRefused → ℕ
+number_of (Ok p) = 0
+number_of (Err e) = 5
 
 -- its bytes
 abbrev pub bytes_in : List ℕ → Part → List ℕ
 bytes_in l p = take p.length (drop p.start l)
 
 abbrev pub standing_in : (a b : ℕ) → List ℕ → List ℕ
-standing_in a b l = bytes_in l (part_of a b l)
-
--- the number of an answer
-abbrev pub number_of : SlotAnswer → ℕ
-number_of SlotAnswer.Answered = 0
-number_of SlotAnswer.LengthRefused = 5
+standing_in a b l = bytes_in l (part_given (part_of a b l))

@@ -4,14 +4,14 @@ use Rattle.printer.specs.Records.{record_size}
 use Rattle.slot.specs.Slot.{Found, forward, record_at, seen_at, whole, found, found_part, part_of, bytes_in, standing_in}
 use Rattle.slot.specs.Slot as S
 use Rattle.slot.specs.declared.Seen.{Seen}
-use Rattle.standing.specs.Standing.{no_record, a_record, bytes_held, or_else, standing_now, next, after_records}
-use Rattle.standing.specs.declared.Held.{Held}
+use Rattle.standing.specs.Standing.{bytes_held, or_else, standing_now, next, after_records}
+use Rattle.std.specs.Prelude.{Option, Some, None}
 use Rattle.standing.specs.declared.Standing.{Standing}
 
 -- the record of a number
-abbrev numbered : List ℕ → ℕ → Held
-numbered l zero = no_record
-numbered l (suc i) = a_record (record_at l i)
+abbrev numbered : List ℕ → ℕ → Option (List ℕ)
+numbered l zero = None
+numbered l (suc i) = Some (record_at l i)
 
 abbrev records : List ℕ → Found → Standing
 records l v = record { kept = numbered l v.kept; line = numbered l v.line }
@@ -22,7 +22,7 @@ or_else_lem l (suc j) k = refl
 
 next-records : (l : List ℕ) (s : Seen) (n : ℕ) (v : Found) → next s (record_at l n) (records l v) ≡ records l (S.next s (suc n) v)
 next-records l Seen.Letter n v = refl
-next-records l Seen.Line n v = ap (λ (h : Held). record { kept = h; line = no_record }) (or_else_lem l v.line v.kept)
+next-records l Seen.Line n v = ap (λ (h : Option (List ℕ)). record { kept = h; line = None }) (or_else_lem l v.line v.kept)
 next-records l Seen.Page n v = refl
 next-records l Seen.Clear n v = refl
 next-records l Seen.Other n v = refl

@@ -1,137 +1,97 @@
 // Records as lines of hex, byte by byte: the line begun is gathered, and when it ends its record counts.
+
 ghost use Rattle.std.specs.Prelude.{◌≡◌};
-ghost use Rattle.standing.specs.Text.{no_lines, bad_line, one_more, line_ended, byte_read, after_byte, after_text, text_ended, lines_of};
+ghost use Rattle.standing.specs.Text.{first_line, line_ended, byte_read, after_byte, after_text, text_ended, lines_of, reading_of};
 
 use crate::Standing;
-use printer::records::Record;
+use arrayvec::ArrayVec;
+use hex_lines::DIGITS;
+use slot::SlotColumns;
 
-// The digits of a line.
-const DIGITS: usize = 2 * Record::SIZE;
-
-// What has been read of a text: the number of the line begun, from 1, its first `count` bytes, what stands after the lines before it, and
-// whether it is no record's. After such a line nothing counts.
-#[derive(Clone, Copy)]
+// What has been read of a text: the number of the line begun, from 1, its bytes so far, and what stands after the lines before it.
+#[derive(Debug, Drop)]
 pub struct Text {
     pub number: u64,
-    pub line: [u8; DIGITS],
-    pub count: usize,
+    pub line: ArrayVec<u8, DIGITS>,
     pub standing: Standing,
-    pub bad: bool,
 }
 
-fn one_more(n: u64) -> u64
-    ensures { result ≡ one_more n }
-{
-    std::num::wrapping_add_u64(n, 1)
+// The line begun is no record's: what had been read when it was found.
+#[derive(Debug, Drop)]
+pub struct BadLine {
+    pub text: Text,
 }
 
 impl Text {
     // Before any byte.
     pub fn new() -> Text
-        ensures { lines_of result ≡ no_lines }
+        ensures { lines_of result ≡ first_line }
     {
-        let line = [0u8; DIGITS];
-        let standing = Standing::new();
         Text {
             number: 1,
-            line,
-            count: 0,
-            standing,
-            bad: false,
-        }
-    }
-
-    // The line begun is no record's.
-    fn refused(self) -> Text
-        ensures { lines_of result ≡ bad_line (lines_of self) }
-    {
-        let line = self.line;
-        let standing = self.standing;
-        Text {
-            number: self.number,
-            line,
-            count: self.count,
-            standing,
-            bad: true,
+            line: ArrayVec::new(),
+            standing: Standing::new(),
         }
     }
 
     // The line begun ends.
-    fn line_ended(self, from: u16, to: u16) -> Text
-        ensures { lines_of result ≡ line_ended from to (lines_of self) }
+    #[tactic(auto, unfolding(crate::specs::Text::line_ended))]
+    fn line_ended(self, columns: SlotColumns) -> Result<Text, BadLine>
+        ensures { reading_of result ≡ line_ended columns.from columns.to (lines_of self) }
     {
-        if self.count < DIGITS {
-            return self.refused();
-        }
-        let line = self.line;
-        let read = hex_lines::record_of(&line);
-        if !read.whole {
-            return self.refused();
-        }
-        let bytes = read.bytes;
-        let standing = self.standing;
-        let next = standing.after(bytes, from, to);
-        Text {
-            number: one_more(self.number),
-            line,
-            count: 0,
-            standing: next,
-            bad: false,
+        match hex_lines::record_of(self.line.as_slice()) {
+            Some(bytes) => Ok(Text {
+                number: self.number.wrapping_add(1),
+                line: ArrayVec::new(),
+                standing: self.standing.after(bytes, columns),
+            }),
+            None => Err(BadLine { text: self }),
         }
     }
 
     // One byte more of the line begun.
-    fn byte_read(self, b: u8) -> Text
-        ensures { lines_of result ≡ byte_read (lines_of self) b }
+    #[tactic(auto, unfolding(crate::specs::Text::byte_read))]
+    fn byte_read(mut self, b: u8) -> Result<Text, BadLine>
+        ensures { reading_of result ≡ byte_read (lines_of self) b }
     {
-        let count = self.count;
-        if DIGITS <= count {
-            return self.refused();
+        if self.line.is_full() {
+            return Err(BadLine { text: self });
         }
-        let mut line = self.line;
-        line[count] = b;
-        let standing = self.standing;
-        Text {
-            number: self.number,
-            line,
-            count: count + 1,
-            standing,
-            bad: self.bad,
-        }
+        self.line.push(b);
+        Ok(self)
     }
 
-    fn byte(self, b: u8, from: u16, to: u16) -> Text
-        ensures { lines_of result ≡ after_byte from to (lines_of self) b }
+    #[tactic(auto, unfolding(crate::specs::Text::after_byte))]
+    fn byte(self, b: u8, columns: SlotColumns) -> Result<Text, BadLine>
+        ensures { reading_of result ≡ after_byte columns.from columns.to (Ok (lines_of self)) b }
     {
-        if self.bad {
-            return self;
-        }
         if b == b'\n' {
-            return self.line_ended(from, to);
+            self.line_ended(columns)
+        } else {
+            self.byte_read(b)
         }
-        self.byte_read(b)
     }
 
     // After a piece of the text.
-    pub fn piece(self, piece: &[u8], from: u16, to: u16) -> Text
-        ensures { lines_of result ≡ after_text from to (lines_of self) piece.now }
+    #[tactic(auto, using(crate::proofs::Lines::byte_on, crate::proofs::Lines::refused_stays, crate::proofs::Lines::all_read))]
+    pub fn piece(self, piece: &[u8], columns: SlotColumns) -> Result<Text, BadLine>
+        ensures { reading_of result ≡ after_text columns.from columns.to (Ok (lines_of self)) piece.now }
     {
         let mut text = self;
-        let mut i = 0;
-        while i < piece.len() {
-            text = text.byte(piece[i], from, to);
-            i += 1;
+        for &b in piece {
+            text = text.byte(b, columns)?;
         }
-        text
+        Ok(text)
     }
 
     // At the end of the text.
-    pub fn end(self, from: u16, to: u16) -> Text
-        ensures { lines_of result ≡ text_ended from to (lines_of self) }
+    #[tactic(auto, unfolding(crate::specs::Text::text_ended))]
+    pub fn end(self, columns: SlotColumns) -> Result<Text, BadLine>
+        ensures { reading_of result ≡ text_ended columns.from columns.to (Ok (lines_of self)) }
     {
-        if self.bad | (self.count == 0) {
-            return self;
+        if self.line.is_empty() {
+            return Ok(self);
         }
-        self.line_ended(from, to)
+        self.line_ended(columns)
     }
 }

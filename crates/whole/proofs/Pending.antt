@@ -2,6 +2,7 @@
 use Prim.Native.Nat.{ℕ}
 use mathlib.Core.Path.{◌≡◌, refl}
 use mathlib.Core.List.{List, [], ◌∷◌}
+use Rattle.std.specs.Prelude.{Option, Some, None}
 use Rattle.printer.specs.Settings.{down_of, held_in, chosen_stops}
 use Rattle.printer.specs.Performing.{Event, done, passed, inside, automatic, perform, perform_all, records_of, records_all}
 use Rattle.printer.specs.Deciding.{attempt, ranged, letter_events, feed_after_return, line_from, vertical_events, vertical, control_events, decide}
@@ -15,9 +16,9 @@ use Rattle.printer.specs.declared.stops.Stop.{Stop}
 module _ (p : Printer) (w : Waiting) where
   -- Deciding
 
-  stop-alike : (c : Command) (x : Stop) → vertical_events (wait_for p w) c x ≡ vertical_events p c x
-  stop-alike c (Stop.Found k n) = refl
-  stop-alike c Stop.Missing = refl
+  stop-alike : (c : Command) (x : Option Stop) → vertical_events (wait_for p w) c x ≡ vertical_events p c x
+  stop-alike c (Some s) = refl
+  stop-alike c None = refl
 
   control-alike : (c : Control) (b : ℕ) → control_events (wait_for p w) c b ≡ control_events p c b
   unfolding attempt feed_after_return vertical

@@ -3,6 +3,7 @@ use Prim.Native.Nat.{ℕ, zero, suc, ◌-◌, ◌/◌, ◌%◌, ◌≤◌}
 use mathlib.Core.Path.{◌≡◌, refl, ap, ◌∙◌}
 use mathlib.Core.List.{List, [], ◌∷◌, ◌++◌, map, map-append}
 use native.Mathlib.Omega.{arith}
+use Rattle.std.specs.Prelude.{Ok}
 use lib.Dec.{eqb}
 use Rattle.printer.specs.Tools.{Bytes}
 use Rattle.printer.specs.Decoding.{decoded_all}
@@ -23,7 +24,6 @@ use Rattle.printer.proofs.Theorems.{records_decode, stopped_anywhere}
 use Rattle.writer.specs.Card.{letter_at, count_of, down_before, answer_of, feed, whole_feeds, feeds, move_bytes, place_bytes, letter_bytes, letters_bytes, written_of}
 use Rattle.writer.specs.Reading.{letters_of, start_on, at_power_on, ReadByCalls}
 use Rattle.writer.specs.Refusals.{AllGood}
-use Rattle.writer.specs.declared.CardAnswer.{CardAnswer}
 use Rattle.writer.specs.declared.Letter.{Letter}
 use Rattle.writer.proofs.GoodLetters.{last-good, before-good}
 use Rattle.writer.proofs.Refusals.{good-when}
@@ -66,7 +66,7 @@ letters_bytes_lem l (suc n) g =
     bytes_append (letters_bytes l n) (letter_bytes (down_before l n) (letter_at l n)) (letters_bytes_lem l n (before-good l n g))
     (letter_bytes_lem (down_before l n) (letter_at l n) (last-good l n g).most)
 
-written_bytes : (l : List ℕ) (room : ℕ) → answer_of l room ≡ CardAnswer.Written → Bytes (written_of l room)
+written_bytes : (l : List ℕ) (room : ℕ) → answer_of l room ≡ Ok tt → Bytes (written_of l room)
 written_bytes l room h = rw h (omega arith, (omega arith, letters_bytes_lem l (count_of l) (good-when l room h)))
 
 -- what happens over reading calls is what happens over the bytes that they read
@@ -78,7 +78,7 @@ calls_happen p (c ∷ l) =
     rw (events_append p (bytes_of c) (bytes_read l), map-append event (events_over p (bytes_of c)) (events_over (state_after p (bytes_of c)) (bytes_read l)))
     (ap (λ (o : List Occurrence). map event (events_over p (bytes_of c)) ++ o) (calls_happen (state_after p (bytes_of c)) l))
 
-module _ (r : Resolution) (l : List ℕ) (room : ℕ) (h : answer_of l room ≡ CardAnswer.Written) (calls : List ReadCall)
+module _ (r : Resolution) (l : List ℕ) (room : ℕ) (h : answer_of l room ≡ Ok tt) (calls : List ReadCall)
     (k : Readings (at_power_on r) calls) (q : bytes_read calls ≡ written_of l room) where
   decodes : decoded_all (joined_output calls) ≡ records_over (at_power_on r) (written_of l room)
   decodes =
@@ -102,7 +102,7 @@ module _ (r : Resolution) (l : List ℕ) (room : ℕ) (h : answer_of l room ≡ 
       }
 
 pub calls_read : (r : Resolution) (l : List ℕ) (room : ℕ) (before : Printer) (c : StartCall) (calls : List ReadCall)
-    → answer_of l room ≡ CardAnswer.Written → c.settings ≡ start_on r → StartPromise c.settings c.back → Readings c.back.printer calls
+    → answer_of l room ≡ Ok tt → c.settings ≡ start_on r → StartPromise c.settings c.back → Readings c.back.printer calls
     → bytes_read calls ≡ written_of l room → ReadByCalls r (letters_of l (count_of l)) before c calls
 calls_read r l room before c calls h s v k q =
     let b : c.back.printer ≡ at_power_on r = ap (λ (x : Started). x.printer) v.gives ∙ ap (λ (x : StartSettings). (start_of x).printer) s in

@@ -1,4 +1,5 @@
 pub mod Laying
+pub mod Chunks
 pub mod Faults
 pub mod Refusals
 pub mod GoodLetters

@@ -4,6 +4,7 @@ use mathlib.Core.Path.{◌≡◌, refl, ap, ◌∙◌}
 use mathlib.Core.Bool.{Bool, true, false}
 use mathlib.Core.List.{List, [], ◌∷◌, ◌++◌, map, map-append}
 use native.Mathlib.Omega.{arith}
+use Rattle.std.specs.Prelude.{Ok}
 use lib.Dec.{eqb}
 use borrow.Author.Tests.{eqb-true}
 use Rattle.printer.specs.Tools.{pick}
@@ -23,7 +24,6 @@ use Rattle.whole.specs.Whole.{Does, beginning, reset}
 use Rattle.writer.specs.Card.{letter_at, count_of, down_before, answer_of, written_of, feed, whole_feeds, feeds, move_bytes, place_bytes, letter_bytes, letters_bytes, card}
 use Rattle.writer.specs.Reading.{letters_of, start_on, at_power_on, texts_in, text_of, placed_letter, ReadsBack}
 use Rattle.writer.specs.Refusals.{AllGood}
-use Rattle.writer.specs.declared.CardAnswer.{CardAnswer}
 use Rattle.writer.specs.declared.Letter.{Letter}
 use Rattle.writer.proofs.GoodLetters.{Good, last-good, before-good}
 use Rattle.writer.proofs.Refusals.{good-when}
@@ -180,6 +180,6 @@ first_letters r l n g =
           (state-append (standing r 0 0) resets (letters_bytes l n) ∙ ap (λ (p : Printer). state_after p (letters_bytes l n)) (reset-state r) ∙ v.state));
     }
 
-pub card_read : (r : Resolution) (l : List ℕ) (room : ℕ) → answer_of l room ≡ CardAnswer.Written
+pub card_read : (r : Resolution) (l : List ℕ) (room : ℕ) → answer_of l room ≡ Ok tt
     → ReadsBack r (letters_of l (count_of l)) (written_of l room)
 card_read r l room h = rw h (first_letters r l (count_of l) (good-when l room h))

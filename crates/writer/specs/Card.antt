@@ -1,10 +1,10 @@
 -- Document 02, E10: what a card is written by, and when it is refused.
-use Rattle.std.specs.Prelude.{ℕ, zero, suc, ◌+◌, ◌-◌, ◌*◌, ◌/◌, ◌%◌, List, [], ◌∷◌, ◌++◌, leb, eqb, length, drop, get_or}
+use Rattle.std.specs.Prelude.{ℕ, zero, suc, ◌+◌, ◌-◌, ◌*◌, ◌/◌, ◌%◌, Bool, List, [], ◌∷◌, ◌++◌, leb, eqb, length, drop, get_or, Result, Ok, Err, ⊤}
+use Rattle.std.specs.Result.{result_and}
 use Rattle.printer.specs.Tools.{pick, Order, ◌up_to◌, holds}
 use Rattle.printer.specs.Records.{low, high}
-use Rattle.writer.specs.declared.CardAnswer.{CardAnswer}
-use Rattle.writer.specs.declared.CardReport.{CardReport}
 use Rattle.writer.specs.declared.Letter.{Letter}
+use Rattle.writer.specs.declared.Refusal.{Refusal}
 
 -- The letters of a list
 
@@ -48,23 +48,19 @@ place_needs before x =
     (before up_to x.down) ∷
     []
 
--- byte before place
-abbrev pub fault_of : (before : ℕ) → Letter → CardAnswer
-fault_of before x =
-    pick (holds (byte_needs x.byte)) (pick (holds (place_needs before x)) CardAnswer.Written CardAnswer.PlaceRefused) CardAnswer.ByteRefused
+-- refused where a test fails
+abbrev pub needs : Bool → Refusal → Result ⊤ Refusal
+needs test refusal = pick test (Ok tt) (Err refusal)
 
--- the first refusal of two
-abbrev pub or_else : CardAnswer → CardAnswer → CardAnswer
-or_else CardAnswer.Written b = b
-or_else CardAnswer.LengthRefused b = CardAnswer.LengthRefused
-or_else CardAnswer.ByteRefused b = CardAnswer.ByteRefused
-or_else CardAnswer.PlaceRefused b = CardAnswer.PlaceRefused
-or_else CardAnswer.RoomRefused b = CardAnswer.RoomRefused
+-- byte before place
+abbrev pub fault_of : (before : ℕ) → Letter → Result ⊤ Refusal
+fault_of before x =
+    result_and (needs (holds (byte_needs x.byte)) Refusal.Byte) (needs (holds (place_needs before x)) Refusal.Place)
 
 -- of the first n letters, the first bad one decides
-unfoldable pub fault_in : List ℕ → (n : ℕ) → CardAnswer
-fault_in l zero = CardAnswer.Written
-fault_in l (suc n) = or_else (fault_in l n) (fault_of (down_before l n) (letter_at l n))
+unfoldable pub fault_in : List ℕ → (n : ℕ) → Result ⊤ Refusal
+fault_in l zero = Ok tt
+fault_in l (suc n) = result_and (fault_in l n) (fault_of (down_before l n) (letter_at l n))
 
 -- the most bytes that a letter is written by, and the room asked for
 abbrev pub most_bytes : ℕ
@@ -74,11 +70,10 @@ abbrev pub room_for : ℕ → ℕ
 room_for n = 2 + most_bytes * n
 
 -- the length before all else; then the letters; then the room
-abbrev pub answer_of : List ℕ → (room : ℕ) → CardAnswer
+abbrev pub answer_of : List ℕ → (room : ℕ) → Result ⊤ Refusal
 answer_of l room =
-    pick (eqb (length l % letter_size) 0)
-    (or_else (fault_in l (count_of l)) (pick (leb (room_for (count_of l)) room) CardAnswer.Written CardAnswer.RoomRefused))
-    CardAnswer.LengthRefused
+    result_and (needs (eqb (length l % letter_size) 0) Refusal.Length)
+    (result_and (fault_in l (count_of l)) (needs (leb (room_for (count_of l)) room) Refusal.Room))
 
 -- The bytes
 
@@ -120,30 +115,25 @@ card l n = 0x1B ∷ 0x40 ∷ letters_bytes l n
 -- What comes back
 
 -- nothing is written where it is refused
-abbrev pub bytes_for : CardAnswer → List ℕ → List ℕ
-bytes_for CardAnswer.Written l = card l (count_of l)
-bytes_for CardAnswer.LengthRefused l = []
-bytes_for CardAnswer.ByteRefused l = []
-bytes_for CardAnswer.PlaceRefused l = []
-bytes_for CardAnswer.RoomRefused l = []
+abbrev pub bytes_for : Result ⊤ Refusal → List ℕ → List ℕ
+bytes_for (Ok _) l = card l (count_of l)
+bytes_for (Err _) l = []
 
 abbrev pub written_of : List ℕ → (room : ℕ) → List ℕ
 written_of l room = bytes_for (answer_of l room) l
 
-abbrev pub report_with : CardAnswer → (written : ℕ) → CardReport
-report_with a n = record { answer = a; written = n }
-
-abbrev pub report_of : List ℕ → (room : ℕ) → CardReport
-report_of l room = report_with (answer_of l room) (length (written_of l room))
+-- the count of bytes written, or the refusal
+abbrev pub report_of : List ℕ → (room : ℕ) → Result ℕ Refusal
+report_of l room = result_and (answer_of l room) (Ok (length (written_of l room)))
 
 -- what the output holds after the call: the bytes, and past them what it held
 abbrev pub output_of : List ℕ → (out : List ℕ) → List ℕ
 output_of l out = written_of l (length out) ++ drop (length (written_of l (length out))) out
 
 -- the number of an answer
-abbrev pub number_of : CardAnswer → ℕ
-number_of CardAnswer.Written = 0
-number_of CardAnswer.LengthRefused = 5
-number_of CardAnswer.ByteRefused = 8
-number_of CardAnswer.PlaceRefused = 9
-number_of CardAnswer.RoomRefused = 10
+abbrev pub number_of : Result ⊤ Refusal → ℕ
+number_of (Ok _) = 0
+number_of (Err Refusal.Length) = 5
+number_of (Err Refusal.Byte) = 8
+number_of (Err Refusal.Place) = 9
+number_of (Err Refusal.Room) = 10

@@ -1,29 +1,19 @@
 // The letters of a list, and what is wrong with them.
 ghost use Rattle.std.specs.Prelude.{◌≡◌, ◌+◌, ◌*◌, ◌≤◌, length};
 ghost use Rattle.printer.specs.Tools.{holds};
-ghost use Rattle.writer.specs.Card.{letter_size, word, letter_at, byte_needs, place_needs, fault_in};
+ghost use Rattle.writer.specs.Card.{letter_size, letter_at, count_of, byte_needs, place_needs, fault_of, fault_in};
 
-use crate::{CardAnswer, Letter};
+use crate::{Letter, Refusal};
 
-// A two-byte number, low byte first.
-fn word(low: u8, high: u8) -> u16
-    ensures { result ≡ word low high }
+// A letter, from its bytes in the list.
+pub(crate) fn letter_from(bytes: &[u8]) -> Letter
+    requires { length bytes.now ≡ letter_size }
+    ensures { result ≡ letter_at bytes.now 0 }
 {
-    low as u16 + 256 * (high as u16)
-}
-
-// A letter of the list.
-pub(crate) fn letter_at(letters: &[u8], i: usize) -> Letter
-    requires { letter_size * i + letter_size ≤ length letters.now }
-    ensures { result ≡ letter_at letters.now i }
-{
-    let at = Letter::SIZE * i;
-    let across = word(letters[at + 1], letters[at + 2]);
-    let down = word(letters[at + 3], letters[at + 4]);
     Letter {
-        byte: letters[at],
-        across,
-        down,
+        byte: bytes[0],
+        across: u16::from_le_bytes([bytes[1], bytes[2]]),
+        down: u16::from_le_bytes([bytes[3], bytes[4]]),
     }
 }
 
@@ -44,23 +34,28 @@ fn placeable(before: u16, x: Letter) -> bool
             & ((down % 20 == 0) & ((down <= 39580) & (before <= down))))
 }
 
-// The fault of the first bad letter, if there is one among the first `count`.
-pub(crate) fn first_fault(letters: &[u8], count: usize) -> CardAnswer
-    requires { letter_size * count ≤ length letters.now }
-    ensures { result ≡ fault_in letters.now count }
+// The byte is looked at before the place.
+fn check_letter(before: u16, x: Letter) -> Result<(), Refusal>
+    ensures { result ≡ fault_of before x }
+{
+    if !printable(x.byte) {
+        return Err(Refusal::Byte);
+    }
+    if !placeable(before, x) {
+        return Err(Refusal::Place);
+    }
+    Ok(())
+}
+
+// The first bad letter decides.
+pub(crate) fn check_letters(letters: &[u8]) -> Result<(), Refusal>
+    ensures { result ≡ fault_in letters.now (count_of letters.now) }
 {
     let mut before = 0;
-    let mut i = 0;
-    while i < count {
-        let x = letter_at(letters, i);
-        if !printable(x.byte) {
-            return CardAnswer::ByteRefused;
-        }
-        if !placeable(before, x) {
-            return CardAnswer::PlaceRefused;
-        }
+    for bytes in letters.chunks_exact(Letter::SIZE) {
+        let x = letter_from(bytes);
+        check_letter(before, x)?;
         before = x.down;
-        i += 1;
     }
-    CardAnswer::Written
+    Ok(())
 }

@@ -7,7 +7,7 @@ use Rattle.hex_lines.proofs.lines.Goals as goal
 
 pub loop-i-init : goal.loop-i-init
 unfolding hex_lines
-loop-i-init c = record { counted = c.least-count.ensures; passed = omega arith; same_length = refl; written = refl }
+loop-i-init c = record { counted = c.min-count.ensures; passed = omega arith; same_length = refl; written = refl }
 
 pub loop-i-preserved : goal.loop-i-preserved
 loop-i-preserved c =

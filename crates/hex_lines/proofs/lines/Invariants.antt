@@ -1,5 +1,5 @@
 -- The loop over the records: the lines of those passed, and past them what the output held.
-use Rattle.std.proofs.Common.{◌-◌, ◌≡◌, ◌*◌, length, ◌≤◌, ◌++◌, drop}
+use Rattle.std.proofs.Common.{◌≡◌, ◌*◌, length, ◌≤◌, ◌++◌, drop}
 use Rattle.hex_lines.specs.HexLines.{hex_lines, line_size, count_of}
 use Rattle.hex_lines.proofs.lines.Given as goal
 
@@ -11,6 +11,3 @@ invariant-loop-i l =
       same_length : length l.out ≡ length l.initial.out;
       written : l.out ≡ hex_lines l.i l.records ++ drop (line_size * l.i) l.initial.out;
     }
-
-abbrev pub decreases-loop-i : goal.decreases-loop-i
-decreases-loop-i l = l.count - l.i

@@ -11,4 +11,4 @@ returns c =
     let u = c.args.u in
     let e : entry u ≡ rounded 203 u = rule u c.requires in
     let small : entry u < 256 = omega arith in
-    rw c.row-eight.ensures (e, small)
+    (e, small)

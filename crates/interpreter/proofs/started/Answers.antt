@@ -8,5 +8,5 @@ pub returns : goal.returns
 returns c = (
   refl,
   c.store_pending.ensures
-      ∙ rw (c.pending_of.ensures, c.power_on.ensures, c.clear_channels.ensures, cleared c.args.m.now c.whole-n.ensures.1) (pended-words _ _ _),
+      ∙ rw (c.pending_of.ensures, c.power_on.ensures, c.clear_channels.ensures, cleared c.args.m.now c.told-m) (pended-words _ _ _),
 )

@@ -3,7 +3,4 @@ use Rattle.slot.proofs.Backward.{Left}
 use Rattle.slot.proofs.newest.Given as goal
 
 abbrev pub invariant-loop-k : goal.invariant-loop-k
-invariant-loop-k l = Left l.from l.to l.records l.k l.void
-
-abbrev pub decreases-loop-k : goal.decreases-loop-k
-decreases-loop-k l = l.k
+invariant-loop-k l = Left l.columns.from l.columns.to l.records l.k l.void

@@ -1,18 +1,12 @@
--- The part that the number found stands for.
-use Rattle.std.proofs.Common.{◌∙◌}
+-- The part that the place found stands for.
 use Rattle.slot.proofs.Backward.{ragged, nothing-found, found_here}
 use Rattle.slot.proofs.part_of.Goals as goal
 
 pub returns-then-records-ne0-clause-part : goal.returns-then-records-ne0-clause-part
-returns-then-records-ne0-clause-part c =
-    c.part_with.ensures ∙ ragged c.args.from c.args.to c.args.records.now c.if-records-ne0.true
+returns-then-records-ne0-clause-part c = ragged _ _ _ c.if-records-ne0.true
 
-pub returns-then-number-eq0-clause-part : goal.returns-then-number-eq0-clause-part
-returns-then-number-eq0-clause-part c =
-    c.part_with-then-number-eq0.ensures
-    ∙ nothing-found c.args.from c.args.to c.args.records.now _ c.if-records-ne0.false c.newest-number.ensures.found c.if-number-eq0.true
+pub returns-in-Some-clause-part : goal.returns-in-Some-clause-part
+returns-in-Some-clause-part c = found_here _ _ _ c.if-records-ne0.false _ c.in-Some.ensures.found
 
-pub returns-clause-part : goal.returns-clause-part
-returns-clause-part c =
-    c.part_with-2.ensures
-    ∙ found_here c.args.from c.args.to c.args.records.now _ c.if-records-ne0.false c.newest-number.ensures.found c.if-number-eq0.false
+pub returns-in-None-clause-part : goal.returns-in-None-clause-part
+returns-in-None-clause-part c = nothing-found _ _ _ c.if-records-ne0.false c.in-None.ensures.found

@@ -1,10 +1,10 @@
--- ESC @ and so many letters are written, over what the output held after ESC @.
-use Rattle.std.proofs.Common.{◌-◌}
+-- ESC @ and so many letters are written.
+use Rattle.std.proofs.Common.{length}
 use Rattle.writer.proofs.Cards.{Begun}
+use Rattle.writer.proofs.Chunks.{Ahead}
 use Rattle.writer.proofs.put_card.Given as goal
 
-abbrev pub invariant-loop-i : goal.invariant-loop-i
-invariant-loop-i l = Begun l.letters l.initial.out l.count l.i l.at l.before l.out
-
-abbrev pub decreases-loop-i : goal.decreases-loop-i
-decreases-loop-i l = l.count - l.i
+abbrev pub invariant-loop-bytes : goal.invariant-loop-bytes
+invariant-loop-bytes l =
+    let i = length l.yielded in
+    record { begun : Begun l.letters l.fn.out i l.at l.before l.out; ahead : Ahead l.letters i l.bytes-iterator }

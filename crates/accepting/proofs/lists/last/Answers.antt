@@ -1,15 +1,8 @@
--- The last stop held, or 0.
-use Prim.Native.Nat.{◌-◌}
-use native.Mathlib.Omega.{arith}
-use Rattle.accepting.proofs.StopLists.{none_last, last_held}
+-- The last of as many as the count says.
+use Rattle.std.proofs.lemmas.List.{take_min}
+use Rattle.std.proofs.lemmas.Option.{unwrap_or-slice_get}
+use Rattle.accepting.proofs.StopLists.{last_read}
 use Rattle.accepting.proofs.lists.last.Goals as goal
 
-pub returns-then-end-eq0 : goal.returns-then-end-eq0
-returns-then-end-eq0 c =
-    let a = c.args in
-    none_last 0 a.count a.stops.now (omega (arith, c.held-end.ensures))
-
 pub returns : goal.returns
-returns c =
-    let a = c.args in
-    last_held 0 a.stops.now a.count (c.held-end.result - 1) (omega (arith, c.held-end.ensures))
+returns c = rw (c.unwrap_or.ensures, c.copied.ensures, c.last.ensures.value, unwrap_or-slice_get, c.min-end.ensures, take_min) (last_read _)

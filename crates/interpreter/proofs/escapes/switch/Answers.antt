@@ -10,17 +10,14 @@ use Rattle.interpreter.proofs.escapes.switch.Goals as goal
 pub returns-in-Bold : goal.returns-in-Bold
 unfolding laid shown_stored
 returns-in-Bold c p v h =
-    rw c.in-Bold.is (look-stored h (with_bold p.settings c.in-Bold.on) Shown.Bold c.flag.ensures c.store_shown.ensures refl)
+    rw c.in-Bold.is (look-stored h (with_bold p.settings c.in-Bold.on) Shown.Bold refl c.show.ensures refl)
 
 pub returns-in-DoubleStrike : goal.returns-in-DoubleStrike
 unfolding laid shown_stored
 returns-in-DoubleStrike c p v h =
-    rw c.in-DoubleStrike.is (look-stored h (with_double_strike p.settings c.in-DoubleStrike.on) Shown.DoubleStrike c.flag-in-DoubleStrike.ensures c.store_shown-in-DoubleStrike.ensures refl)
+    rw c.in-DoubleStrike.is (look-stored h (with_double_strike p.settings c.in-DoubleStrike.on) Shown.DoubleStrike refl c.show-in-DoubleStrike.ensures refl)
 
 pub returns-in-Italic : goal.returns-in-Italic
 unfolding laid shown_stored
 returns-in-Italic c p v h =
-    rw c.in-Italic.is (look-stored h (with_italic p.settings c.in-Italic.on) Shown.Italic c.flag-in-Italic.ensures c.store_shown-in-Italic.ensures refl)
-
-pub returns-in-NoScript : goal.returns-in-NoScript
-returns-in-NoScript c p v h = rw c.in-NoScript.is (c.script.ensures p v h)
+    rw c.in-Italic.is (look-stored h (with_italic p.settings c.in-Italic.on) Shown.Italic refl c.show-in-Italic.ensures refl)

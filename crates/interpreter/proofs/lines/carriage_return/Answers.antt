@@ -17,4 +17,4 @@ pub returns : goal.returns
 returns c p v h =
     let there = returned h (c.move_to.ensures p v h) in
     silently-did _ _ refl
-    (stays_after _ _ _ (sym (autofeed-held there) ∙ ne_eqb _ _ c.if-m-eq1.false) there.same)
+    (stays_after _ (sym (autofeed-held there) ∙ ne_eqb _ _ c.if-m-eq1.false) there.same)

@@ -12,4 +12,4 @@ returns c p v h ok =
     did
     (feed-done p c.args.n (omega (arith, c.ranges.n)) ok
     (c.further_down-depth.ensures ∙ rw (c.edge.ensures p v h, down-held h)))
-    there.same (c.write_feed.ensures _ v there)
+    there.same (rw (c.feed_record.ensures _ v there))

@@ -17,4 +17,4 @@ returns c p v h =
     did-by (c.line_to-2.ensures p v h)
     (feeds p
     (rw (c.edge.ensures p v h, down-held h, line-held h)
-    at (sym c.downward.ensures ∙ c.in-At.is)))
+    at (sym c.downward.ensures ∙ c.in-Some.is)))

@@ -7,4 +7,4 @@ pub returns : goal.returns
 returns c p v h =
     let down = c.args.down.0 in
     let there = line-stored h down (c.end_wide_once.ensures p v h) in
-    record { state = there.same; wrote = c.write_feed.ensures (on_line_at p down) v there }
+    record { state = there.same; wrote = rw (c.feed_record.ensures (on_line_at p down) v there) }

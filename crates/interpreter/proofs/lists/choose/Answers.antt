@@ -17,4 +17,4 @@ returns-then-n-le7 c p v h =
 pub returns : goal.returns
 returns c p v h =
     let n = c.args.n in
-    not-allowed (Command.Channel n) 2 (rw (lt-leb n 7 (omega (arith, c.if-n-le7.false)))) h c.write_passed.ensures
+    not-allowed (Command.Channel n) 2 (rw (lt-leb n 7 (omega (arith, c.if-n-le7.false)))) h c.passed_record.ensures

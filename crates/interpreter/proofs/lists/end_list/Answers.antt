@@ -3,7 +3,7 @@ use Rattle.interpreter.proofs.StopWords.{columns-copied}
 use Rattle.interpreter.proofs.lists.end_list.Goals as goal
 
 pub returns-in-Columns : goal.returns-in-Columns
-returns-in-Columns c p v h g = rw c.in-Columns.is (c.open_list.ensures _ v (columns-copied h c.copy_columns.ensures))
+returns-in-Columns c p v h g = rw c.in-Columns.is (c.open_list.ensures _ v (columns-copied h c.copy_within.ensures.after))
 
 pub returns-in-Channel : goal.returns-in-Channel
 returns-in-Channel c p v h g =

@@ -1,6 +1,5 @@
 -- A byte of a list: one more stop, or passed over.
 use mathlib.Core.Path.{refl, sym, ap, ◌∙◌}
-use native.Mathlib.Omega.{arith}
 use mathlib.Core.List.{[]}
 use Rattle.printer.specs.Settings.{column_of}
 use Rattle.printer.specs.Performing.{done}
@@ -9,16 +8,8 @@ use Rattle.printer.specs.declared.commands.Listing.{Listing}
 use Rattle.printer.specs.declared.commands.ListPart.{ListPart}
 use Rattle.registers.proofs.Reading.{settings-held, column-held}
 use Rattle.interpreter.proofs.Outcomes.{whole, attempt-done, attempt-passed, did}
-use Rattle.interpreter.proofs.Writes.{none}
 use Rattle.interpreter.proofs.StopWords.{count_held, stop-added}
 use Rattle.interpreter.proofs.lists.list_byte.Goals as goal
-
-pub overflow_cast-stop_of : goal.overflow_cast-stop_of
-overflow_cast-stop_of c =
-    record { fits = rw c.stop_of.ensures (omega (arith, (c.stop_allowed-allowed.ensures.1 c.if-allowed.true).1)) }
-
-pub add_stop-requires : goal.add_stop-requires
-add_stop-requires c = (c.stop_allowed-allowed.ensures.1 c.if-allowed.true).0
 
 pub returns-then-allowed : goal.returns-then-allowed
 returns-then-allowed c p v h =
@@ -29,8 +20,8 @@ returns-then-allowed c p v h =
     let command = Command.List (Listing.Sets a.k) (ListPart.Byte a.b) in
     did
     (attempt-done p command 3 (rw (s, count_held h) at (sym (e.0 w) ∙ c.if-allowed.true)) (whole p (done command 0) [] refl refl))
-    (c.add_stop.ensures ∙ rw (c.stop_of.ensures, s) (stop-added h _ (rw (count_held h) at (e.1 c.if-allowed.true).0)))
-    (none _ _)
+    (c.add_stop.ensures ∙ rw (c.stop_of.ensures c.settings_in-s.result refl, s) (stop-added h _ (rw (count_held h) at (e.1 c.if-allowed.true).0)))
+    refl
 
 pub returns : goal.returns
 returns c p v h =
@@ -40,4 +31,4 @@ returns c p v h =
     did
     (attempt-passed p (Command.List (Listing.Sets a.k) (ListPart.Byte a.b)) 3
     (rw (s, count_held h) at (sym (c.stop_allowed-allowed.ensures.0 w) ∙ c.if-allowed.false)) refl)
-    h.same c.write_passed.ensures
+    h.same (rw c.passed_record.ensures)

@@ -1,27 +1,14 @@
 -- Zeros over the gathered list.
-use Prim.Native.Nat.{ℕ}
-use mathlib.Core.Path.{sym, ap, ◌∙◌}
-use mathlib.Core.List.{List}
-use native.Mathlib.Omega.{arith}
-use lib.ListN.{length, replicate, get_or-replicate}
-use lib.Seq.{paste}
+use Rattle.std.proofs.Common.{length, take, drop, ◌≡◌, arith, length-drop}
+use Rattle.std.proofs.Math.Seq.{drop-drop}
+use Rattle.std.proofs.lemmas.List.{length-take}
 use Rattle.registers.specs.Register.{gathered_count_at}
-use Rattle.interpreter.proofs.Pasting.{begins, goes_on, whole}
-use Rattle.interpreter.proofs.StopWords.{words-length, emptied}
+use Rattle.interpreter.proofs.StopWords.{held-length, emptied}
 use Rattle.interpreter.proofs.lists.open_list.Goals as goal
-
-pub loop-i-init : goal.loop-i-init
-loop-i-init c = (omega arith, λ _. begins _ gathered_count_at (replicate 33 0))
-
-pub loop-i-preserved : goal.loop-i-preserved
-loop-i-preserved c =
-    let t = c.loop-i-test.true in (
-      omega arith,
-      λ e. goes_on (c.loop-i.invariant.1 e) (omega arith) t (sym (get_or-replicate 33 c.loop-i.i 0 0 t)),
-    )
 
 pub returns : goal.returns
 returns c p v h =
-    let e = ap length h.same ∙ words-length v p h.long in
-    whole (c.loop-i.invariant.1 e) c.loop-i-test.false
-    ∙ ap (λ (l : List ℕ). paste l gathered_count_at (replicate 33 0) 33) h.same ∙ emptied v p h.long
+    let m = c.args.m.now in
+    let n : length (take 33 (drop gathered_count_at m)) ≡ 33 = simp (length-take, length-drop) (omega (arith, held-length h)) in
+    let z = rw n at (c.fill.ensures.after (λ y e. e)) in
+    rw (z, drop-drop 33 gathered_count_at m, h.same) (emptied v p h.long)

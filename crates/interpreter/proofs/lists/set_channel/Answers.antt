@@ -13,7 +13,7 @@ pub returns : goal.returns
 returns c p v h i j =
     let a = c.args in
     let e : a.c % 8 ≡ a.c = omega arith in
-    let n = c.set_count-count.result in
-    let k : n ≡ p.stops.gathered.count + 1 = rw (count_held h) at (c.set_count-count.ensures (omega (arith, count_held h))) in
-    subst (λ (x : ℕ). Held (with_parts p p.settings p.place (stops_of p.stops.columns (with_channel p.stops.channels x p.stops.gathered) p.stops.gathered)) v (set c.copy_lines.new.m (channel_counts_at + a.c % 8) n))
-    e (channel-copied h (a.c % 8) n (omega arith) k c.copy_lines.ensures)
+    let n = c.min-held.result + 1 in
+    let k : n ≡ p.stops.gathered.count + 1 = omega (arith, c.min-held.ensures, count_held h) in
+    subst (λ (x : ℕ). Held (with_parts p p.settings p.place (stops_of p.stops.columns (with_channel p.stops.channels x p.stops.gathered) p.stops.gathered)) v (set c.copy_within.new.self (channel_counts_at + a.c % 8) n))
+    e (channel-copied h (a.c % 8) n (omega arith) k c.copy_within.ensures.after)

@@ -17,12 +17,12 @@ returns-in_default c p v h =
     did
     (keeps p _ _ _ (rw (both_true _) refl)
     (rw (column-held h, left-held h, paper-held h) at (sym c.right_column.ensures ∙ c.in_default.is)) refl)
-    h.same c.write_passed.ensures
+    h.same (rw c.passed_record.ensures)
 
 pub returns : goal.returns
 returns c p v h =
     let w = rw (left-held h) at (c.margins_set.ensures p v h) in
     did
     (sets p _ _ _ (rw (both_true _) refl) (λ (n : ℕ). margins_set p (left_of p.settings) n) (clear_record ∷ []) _ refl refl
-    (rw (column-held h, left-held h, paper-held h) at (sym c.right_column.ensures ∙ c.in-At.is)) refl)
+    (rw (column-held h, left-held h, paper-held h) at (sym c.right_column.ensures ∙ c.in-Some.is)) refl)
     w.state w.wrote

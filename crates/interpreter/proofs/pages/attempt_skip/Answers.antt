@@ -1,26 +1,13 @@
 -- ESC N: done if the skip is allowed, and then it fits 32 bits.
-use Prim.Native.Nat.{suc, ◌+◌, ◌*◌}
+use Prim.Native.Nat.{◌*◌}
 use mathlib.Core.Path.{◌≡◌, refl, sym, ◌∙◌}
-use mathlib.Core.List.{[], ◌∷◌}
-use native.Mathlib.Omega.{arith}
-use Rattle.printer.specs.Tools.{◌up_to◌}
 use Rattle.printer.specs.Records.{style_of}
 use Rattle.printer.specs.Settings.{line_of}
 use Rattle.printer.specs.declared.commands.Command.{Command}
-use Rattle.printer.proofs.Choices.{holds_fact}
 use Rattle.registers.specs.Layout.{laid}
 use Rattle.registers.proofs.Reading.{paper-held, place-held}
 use Rattle.interpreter.proofs.Escaping.{allowed, not-allowed, silently}
 use Rattle.interpreter.proofs.pages.attempt_skip.Goals as goal
-
-pub overflow_cast-m : goal.overflow_cast-m
-overflow_cast-m c =
-    let page = c.paper_in-paper.result.page.0 in
-    let down = c.place_in-place.result.down.0 in
-    let skip = c.lines-skip.result in
-    let facts = holds_fact ((3600 + skip up_to page) ∷ (suc (down + skip) up_to page) ∷ [])
-    (sym c.skip_fits.ensures ∙ c.if-skip_fits.true) in
-    record { fits = omega (arith, c.paper_in-paper.type_inv) }
 
 pub returns-then-skip_fits : goal.returns-then-skip_fits
 unfolding laid style_of
@@ -28,7 +15,7 @@ returns-then-skip_fits c p v h =
     let n = c.args.n in
     let paper = c.paper_in-paper.ensures ∙ paper-held h in
     let place = c.place_in-place.ensures ∙ place-held h in
-    let skip : c.lines-skip.result ≡ n * line_of p.settings = rw paper at c.lines-skip.ensures.0 in
+    let skip : c.times-skip.result ≡ n * line_of p.settings = rw paper at c.times-skip.ensures.0 in
     allowed (Command.Skip n) 3 (rw (skip, paper, place) at (sym c.skip_fits.ensures ∙ c.if-skip_fits.true))
     (silently (Command.Skip n) refl (rw (skip, h.same)))
 
@@ -37,6 +24,6 @@ returns c p v h =
     let n = c.args.n in
     let paper = c.paper_in-paper.ensures ∙ paper-held h in
     let place = c.place_in-place.ensures ∙ place-held h in
-    let skip : c.lines-skip.result ≡ n * line_of p.settings = rw paper at c.lines-skip.ensures.0 in
+    let skip : c.times-skip.result ≡ n * line_of p.settings = rw paper at c.times-skip.ensures.0 in
     not-allowed (Command.Skip n) 3 (rw (skip, paper, place) at (sym c.skip_fits.ensures ∙ c.if-skip_fits.false)) h
-    c.write_passed.ensures
+    c.passed_record.ensures

@@ -14,4 +14,4 @@ pub returns : goal.returns
 returns c p v h =
     let g = c.args.g in
     out_of_range _ _ _ (sym c.page_fits.ensures ∙ c.if-page_fits.false) h
-    (rw (shows-page g) c.write_passed.ensures)
+    (rw (shows-page g) c.passed_record.ensures)

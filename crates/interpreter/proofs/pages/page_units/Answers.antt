@@ -4,7 +4,4 @@ use Rattle.registers.proofs.Reading.{paper-held}
 use Rattle.interpreter.proofs.pages.page_units.Goals as goal
 
 pub returns-in-Lines : goal.returns-in-Lines
-returns-in-Lines c p v h = rw c.in-Lines.is (rw (c.paper_in-paper.ensures ∙ paper-held h) at c.lines.ensures.0)
-
-pub returns-in-Inches : goal.returns-in-Inches
-returns-in-Inches c p v h = rw c.in-Inches.is
+returns-in-Lines c p v h = rw c.in-Lines.is (rw (c.paper_in-paper.ensures ∙ paper-held h) at c.times.ensures.0)

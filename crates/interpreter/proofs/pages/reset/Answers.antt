@@ -11,4 +11,4 @@ pub returns : goal.returns
 returns c p v h =
     let held = reset_held h (c.setup_in-setup.ensures ∙ setup-held h) c.power_on.ensures in
     let e = done Command.Reset 0 in
-    performed e held.same (c.write_feed.ensures (perform p e) v held)
+    performed e held.same (rw (c.feed_record.ensures (perform p e) v held))

@@ -6,4 +6,4 @@ pub returns-then-fits : goal.returns-then-fits
 returns-then-fits c p v h = in-range _ _ _ c.if-fits.true (c.attempt_skip.ensures p v h)
 
 pub returns : goal.returns
-returns c p v h = out_of_range _ _ _ c.if-fits.false h c.write_passed.ensures
+returns c p v h = out_of_range _ _ _ c.if-fits.false h c.passed_record.ensures

@@ -1,7 +1,7 @@
 -- The loop of a reading call: see Going. The code is safe for the printer that `requires` names; what it promises, it promises of any.
 use native.Mathlib.Omega.{arith}
 use Rattle.printer.proofs.Types.{known_bytes}
-use Rattle.interpreter.proofs.Going.{begins, input-used, allowance-used, output-full, within-output, goes_on}
+use Rattle.interpreter.proofs.Going.{begins, input-used, allowance-used, output-full, part-some, room-some, within-output, goes_on}
 use Rattle.interpreter.proofs.reading.run.Goals as goal
 
 pub loop-at-init : goal.loop-at-init
@@ -20,19 +20,23 @@ returns-then-room-lt-ROOM c =
     rw c.ended-then-room-lt-ROOM.ensures
     (output-full (c.loop-at.invariant p v h) c.if-at-input.false c.if-left-eq0.false c.if-room-lt-ROOM.true)
 
-pub turn-t-requires-clause-kept : goal.turn-t-requires-clause-kept
-turn-t-requires-clause-kept c =
-    record { printer = _; stale = _; current = (c.loop-at.invariant _ _ c.requires.current).current }
+pub turn-t-requires : goal.turn-t-requires
+turn-t-requires c =
+    let g = c.loop-at.invariant _ _ c.requires.current in
+    record {
+      kept = record { printer = _; stale = _; current = g.current };
+      some-input = part-some g c.min.ensures c.if-at-input.false c.if-left-eq0.false;
+      some-room = room-some g (omega arith);
+    }
 
 pub overflow_add-written : goal.overflow_add-written
 overflow_add-written c =
     let g = c.loop-at.invariant _ _ c.requires.current in
-    record { fits = omega (arith, within-output g c.least.ensures (c.turn-t.ensures.turn_promise _ _ g.current)) }
+    record { fits = omega (arith, within-output g c.min.ensures (c.turn-t.ensures.promise _ _ g.current)) }
 
 pub loop-at-preserved : goal.loop-at-preserved
 loop-at-preserved c =
     λ p v h.
     let g = c.loop-at.invariant p v h in
-    goes_on g c.least.ensures (c.turn-t.ensures.turn_promise _ _ g.current)
+    goes_on g c.min.ensures (c.turn-t.ensures.promise _ _ g.current)
     (known_bytes c.args.input.now (λ i. omega (arith, c.type_inv.input i)))
-    c.turn-t.ensures.read_nonzero.1

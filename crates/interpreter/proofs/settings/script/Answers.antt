@@ -14,8 +14,8 @@ pub returns : goal.returns
 unfolding laid shown_stored
 returns c p v h =
     let a = c.args in
-    c.store_shown-2.ensures
-    ∙ rw (c.flag-2.ensures, c.store_shown.ensures, c.flag.ensures)
+    c.show-2.ensures
+    ∙ rw c.show.ensures
     (look-kept h (with_script p.settings a.up a.down)
     (λ (l : List ℕ). shown_stored (shown_stored l Shown.Superscript (flag a.up)) Shown.Subscript (flag a.down))
     (shown-kept (shown-kept (styled-held h) Shown.Superscript _) Shown.Subscript _) refl)

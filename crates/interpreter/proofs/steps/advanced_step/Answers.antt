@@ -22,4 +22,4 @@ returns-in_default c p v m h =
     let other = Command.Refused (Refused.Advanced c.args.b) in
     rw c.whole-in_default.ensures
     (whole h _ {c = other} (argument-frame h _ refl refl ∙ rw (ne_eqb _ _ c.in_default.in_default-own.rest.0.1, ne_eqb _ _ c.in_default.in_default-own.rest.1))
-    (refused other 1 h.held c.write_passed.ensures))
+    (refused other 1 h.held c.passed_record.ensures))

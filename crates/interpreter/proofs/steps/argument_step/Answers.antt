@@ -2,6 +2,7 @@
 use mathlib.Core.Path.{refl}
 use Rattle.printer.specs.declared.commands.Command.{Command}
 use Rattle.printer.specs.declared.commands.Opening.{Opening}
+use Rattle.interpreter.proofs.Attempts.{two_bytes}
 use Rattle.interpreter.proofs.Escaping.{silently}
 use Rattle.interpreter.proofs.Stepping.{argument-frame, waited, whole}
 use Rattle.interpreter.proofs.steps.argument_step.Goals as goal
@@ -10,9 +11,6 @@ pub returns-in-One : goal.returns-in-One
 returns-in-One c p v h =
     rw c.whole.ensures
     (whole h _ (argument-frame h _ refl c.in-One.is) (c.one_argument.ensures p v h.held h.accepted))
-
-pub returns-in-PageLength : goal.returns-in-PageLength
-returns-in-PageLength c p v h = c.page_step.ensures p v (rw c.in-PageLength.is at h)
 
 pub returns-in-PageInches : goal.returns-in-PageInches
 returns-in-PageInches c p v h =
@@ -28,9 +26,6 @@ returns-in-CommandMode c p v h = c.mode_step.ensures p v _ (rw c.in-CommandMode.
 pub returns-in-FirstOf : goal.returns-in-FirstOf
 returns-in-FirstOf c p v h = rw c.waits.ensures (waited h _ (argument-frame h _ refl c.in-FirstOf.is))
 
-pub returns-in-SecondOf : goal.returns-in-SecondOf
-returns-in-SecondOf c p v h = c.two_step.ensures p v (rw c.in-SecondOf.is at h)
-
 pub returns-in-SelectMode : goal.returns-in-SelectMode
 returns-in-SelectMode c p v h = c.select_step.ensures p v _ (rw c.in-SelectMode.is at h)
 
@@ -40,8 +35,5 @@ returns-in-ColumnsLow c p v h = rw c.waits-in-ColumnsLow.ensures (waited h _ (ar
 pub returns-in-ColumnsHigh : goal.returns-in-ColumnsHigh
 returns-in-ColumnsHigh c p v h =
     let b = c.args.b in
-    rw (c.waits-in-ColumnsHigh.ensures, c.image_wait.ensures)
+    rw (c.waits-in-ColumnsHigh.ensures, c.image_wait.ensures, two_bytes _ _ c.from_le_bytes.ensures)
     (whole h _ (argument-frame h _ refl c.in-ColumnsHigh.is) (silently (Command.OpenImage (Opening.Selected c.in-ColumnsHigh.mode) c.in-ColumnsHigh.a b) refl h.held.same))
-
-pub returns-in-ListChannel : goal.returns-in-ListChannel
-returns-in-ListChannel c p v h = c.channel_step.ensures p v (rw c.in-ListChannel.is at h)

@@ -21,5 +21,4 @@ returns c p v h =
     let n = c.args.c in
     let opens = Command.OpenList (ListOpening.Channel n) in
     let e = lt-leb n 7 (omega (arith, c.if-c-le7.false)) in
-    rw c.waits-2.ensures
-    (whole h _ {c = opens} (argument-frame h _ refl refl ∙ rw e) (not-allowed opens 2 (rw e) h.held c.write_passed.ensures))
+    whole h _ {c = opens} (argument-frame h _ refl refl ∙ rw e) (not-allowed opens 2 (rw e) h.held c.passed_record.ensures)

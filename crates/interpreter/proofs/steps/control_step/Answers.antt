@@ -12,16 +12,19 @@ use Rattle.interpreter.proofs.steps.control_step.Goals as goal
 pub returns-in-Control : goal.returns-in-Control
 returns-in-Control c p v h e =
     let b = c.args.b in
-    whole h b (e ∙ ap (λ (f : First). first_frame f b) c.in-Control.is) (c.control.ensures p v h.held h.accepted.channels.0)
+    rw c.whole.ensures
+    (whole h b (e ∙ ap (λ (f : First). first_frame f b) c.in-Control.is) (c.control.ensures p v h.held h.accepted.channels.0))
 
 pub returns-in-Escape : goal.returns-in-Escape
 returns-in-Escape c p v h e =
     let b = c.args.b in
-    whole h b (e ∙ ap (λ (f : First). first_frame f b) c.in-Escape.is)
-    (silently (Command.Silent (Silent.Escape b)) refl h.held.same)
+    rw c.waits.ensures
+    (whole h b (e ∙ ap (λ (f : First). first_frame f b) c.in-Escape.is)
+    (silently (Command.Silent (Silent.Escape b)) refl h.held.same))
 
 pub returns-in-Unlisted : goal.returns-in-Unlisted
 returns-in-Unlisted c p v h e =
     let b = c.args.b in
-    whole h b (e ∙ ap (λ (f : First). first_frame f b) c.in-Unlisted.is)
-    (refused (Command.Refused (Refused.Byte b)) 1 h.held c.write_passed.ensures)
+    rw c.whole-in-Unlisted.ensures
+    (whole h b (e ∙ ap (λ (f : First). first_frame f b) c.in-Unlisted.is)
+    (refused (Command.Refused (Refused.Byte b)) 1 h.held c.passed_record.ensures))

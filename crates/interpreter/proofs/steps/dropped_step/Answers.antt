@@ -10,14 +10,14 @@ use Rattle.interpreter.proofs.Stepping.{list-frame, whole}
 use Rattle.interpreter.proofs.steps.dropped_step.Goals as goal
 
 pub returns-then-b-before : goal.returns-then-b-before
-returns-then-b-before c p v m out h =
+returns-then-b-before c p v m h =
     let a = c.args in
     let ends = Command.List Listing.Dropped (ListPart.End a.b) in
     rw c.whole.ensures
     (whole h _ {c = ends} (list-frame h _ refl ∙ rw (le-leb a.b a.before (omega arith))) (allowed ends 3 refl (silently ends refl h.held.same)))
 
 pub returns : goal.returns
-returns c p v m out h =
+returns c p v m h =
     let a = c.args in
     let goes = Command.List Listing.Dropped (ListPart.Byte a.b) in
     rw c.waits.ensures

@@ -19,4 +19,4 @@ returns c p v m h =
     let other = Command.Refused (Refused.CommandMode c.args.n) in
     rw c.whole-2.ensures
     (whole h _ {c = other} (argument-frame h _ refl refl ∙ rw (ne_eqb _ _ c.if-n-eq0.false))
-    (refused other 2 h.held c.write_passed.ensures))
+    (refused other 2 h.held c.passed_record.ensures))

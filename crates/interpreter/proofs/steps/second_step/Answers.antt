@@ -1,7 +1,6 @@
 -- An escape.s second byte, by what it is.
 use Rattle.printer.specs.declared.commands.ListOpening.{ListOpening}
 use mathlib.Core.Path.{refl, sym, ◌∙◌}
-use native.Mathlib.Omega.{arith}
 use Rattle.printer.specs.declared.commands.Command.{Command}
 use Rattle.printer.specs.declared.commands.Look.{Look}
 use Rattle.printer.specs.declared.commands.Refused.{Refused}
@@ -11,11 +10,7 @@ use Rattle.interpreter.proofs.Stepping.{second-frame, waited, whole}
 use Rattle.interpreter.proofs.steps.second_step.Goals as goal
 
 pub shift-requires : goal.shift-requires
-shift-requires c =
-    record {
-      record_size_in_bounds = omega arith;
-      fact = only_shifts c.args.b _ (sym c.requires.s_value ∙ c.in-Control.is);
-    }
+shift-requires c = record { fact = only_shifts c.args.b _ (sym c.requires.s_value ∙ c.in-Control.is) }
 
 pub returns-in-Control : goal.returns-in-Control
 returns-in-Control c p v h =
@@ -53,4 +48,4 @@ pub returns-in-Unlisted : goal.returns-in-Unlisted
 returns-in-Unlisted c p v h =
     rw c.whole-in-Unlisted.ensures
     (whole h _ (second-frame h _ refl c.requires.s_value c.in-Unlisted.is)
-    (refused (Command.Refused (Refused.Escape c.args.b)) 1 h.held c.write_passed.ensures))
+    (refused (Command.Refused (Refused.Escape c.args.b)) 1 h.held c.passed_record.ensures))

@@ -21,6 +21,5 @@ returns-then-b-before c p v h =
 pub returns : goal.returns
 returns c p v h =
     let a = c.args in
-    rw c.waits.ensures
-    (whole h _ {c = Command.List (Listing.Sets a.t) (ListPart.Byte a.b)} (list-frame h _ refl ∙ rw (lt-leb a.b a.before (omega arith)))
-    (c.list_byte.ensures p v h.held))
+    whole h _ {c = Command.List (Listing.Sets a.t) (ListPart.Byte a.b)} (list-frame h _ refl ∙ rw (lt-leb a.b a.before (omega arith)))
+    (c.list_byte.ensures p v h.held)

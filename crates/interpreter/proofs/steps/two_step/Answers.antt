@@ -4,6 +4,7 @@ use Rattle.printer.specs.declared.commands.Begun.{Begun}
 use Rattle.printer.specs.declared.commands.Command.{Command}
 use Rattle.printer.specs.declared.commands.Opening.{Opening}
 use Rattle.printer.specs.declared.commands.Two.{Two}
+use Rattle.interpreter.proofs.Attempts.{two_bytes}
 use Rattle.interpreter.proofs.Escaping.{silently}
 use Rattle.interpreter.proofs.Stepping.{argument-frame, whole}
 use Rattle.interpreter.proofs.steps.two_step.Goals as goal
@@ -17,6 +18,6 @@ returns-in-Move c p v h =
 pub returns-in-Image : goal.returns-in-Image
 returns-in-Image c p v h =
     let a = c.args in
-    rw (c.waits.ensures, c.image_wait.ensures, c.density_mode.ensures)
+    rw (c.waits.ensures, c.image_wait.ensures, c.density_mode.ensures, two_bytes _ _ c.from_le_bytes.ensures)
     (whole h _ (argument-frame h _ refl (ap (λ (x : Two). Begun.SecondOf x a.a) c.in-Image.is))
     (silently (Command.OpenImage (Opening.Named c.in-Image.d) a.a a.b) refl h.held.same))

@@ -12,10 +12,10 @@ returns-in_default c b p v h k n =
 pub returns-then-above : goal.returns-then-above
 returns-then-above c b p v h k n =
     did-by (c.line_to.ensures p v h)
-    (stop-done p b _ _ (sym (line-sought h _ _ k n) ∙ sym c.next_line-search.ensures ∙ c.in-Found.is)
+    (stop-done p b _ (sym (line-sought h _ _ k n) ∙ sym c.next_line-search.ensures ∙ c.in-Some.is)
     (rw (c.edge.ensures p v h) at c.if-above.true-raw) refl)
 
 pub returns : goal.returns
 returns c b p v h k n =
-    stop-below p b _ _ (sym (line-sought h _ _ k n) ∙ sym c.next_line-search.ensures ∙ c.in-Found.is)
+    stop-below p b _ (sym (line-sought h _ _ k n) ∙ sym c.next_line-search.ensures ∙ c.in-Some.is)
     (rw (c.edge.ensures p v h) at c.if-above.false-raw) (c.to_next_page-2.ensures b p v h)

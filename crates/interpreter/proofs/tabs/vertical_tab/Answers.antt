@@ -1,10 +1,4 @@
 -- VT: as LF, as CR, or among stops.
-use Prim.Native.Nat.{◌+◌, ◌%◌}
-use mathlib.Core.Path.{◌≡◌}
-use lib.ListN.{get_or}
-use native.Mathlib.Omega.{arith}
-use borrow.Author.Tests.{eqb-false}
-use Rattle.registers.specs.Register.{chosen_at, channel_counts_at}
 use Rattle.interpreter.proofs.StopWords.{chosen-number, chosen-count}
 use Rattle.interpreter.proofs.Tabbing.{once-ended, as-return, among-stops, as_line}
 use Rattle.interpreter.proofs.tabs.vertical_tab.Goals as goal
@@ -12,13 +6,6 @@ use Rattle.interpreter.proofs.tabs.vertical_tab.Goals as goal
 pub returns-then-never : goal.returns-then-never
 returns-then-never c b p v h q =
     as_line p b (rw (chosen-count h q) at c.if-never.true-raw) (c.line_feed.ensures _ v (once-ended p b h (c.end_wide_once.ensures p v h)))
-
-pub overflow_sub-stops : goal.overflow_sub-stops
-overflow_sub-stops c =
-    let m = c.args.m.now in
-    let n = get_or m (channel_counts_at + get_or m chosen_at 0 % 8) 0 in
-    let z : (n ≡ 0 → ⊥) = eqb-false n 0 c.if-never.false-raw in
-    omega (arith, z)
 
 pub returns-then-none : goal.returns-then-none
 returns-then-none c b p v h q =

@@ -2,12 +2,14 @@
 use mathlib.Core.Path.{refl, sym, ◌∙◌}
 use Rattle.interpreter.proofs.Following.{no-letter-from}
 use Rattle.interpreter.proofs.Stepping.{control-frame}
-use Rattle.interpreter.proofs.Taken.{byte-taken}
+use Rattle.interpreter.proofs.Taken.{byte-turned}
 use Rattle.interpreter.proofs.turn.take_here.Goals as goal
 
-pub returns-clause-turn_promise : goal.returns-clause-turn_promise
-returns-clause-turn_promise c =
-    λ p v h.
-    byte-taken c.requires.input_nonzero.0 c.requires.input_nonzero.1
-    (c.control_step-s.ensures p v h
-    (control-frame h _ refl (no-letter-from _ _ c.upper_letters-from.ensures (sym c.prints-letter.ensures ∙ c.if-letter.false)) c.first.ensures))
+pub returns : goal.returns
+returns c =
+    let r = c.after_byte.ensures in
+    rw r.0
+    (byte-turned c.requires
+    (λ p v h. c.control_step.ensures p v h
+    (control-frame h _ refl (no-letter-from _ _ c.upper_letters-from.ensures (sym c.prints.ensures ∙ c.if-prints.false)) c.first.ensures))
+    r.1)

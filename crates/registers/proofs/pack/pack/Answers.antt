@@ -12,5 +12,5 @@ returns c =
     let p = c.args.p in
     let m = c.args.m.now in
     c.store_pending.ensures
-    ∙ rw (c.pending_of.ensures, c.store_stops.ensures, c.store_settings.ensures, c.store_place.ensures, packed-words p m c.whole-n.ensures.1 (typed p c.well_formed.1.0).stops)
+    ∙ rw (c.pending_of.ensures, c.store_stops.ensures, c.store_settings.ensures, c.store_place.ensures, packed-words p m c.told-m (typed p c.well_formed.1.0).stops)
     (pended-words (pending_of p.waiting) (stale_in m) p)

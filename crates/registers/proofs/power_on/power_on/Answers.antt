@@ -9,4 +9,4 @@ returns c =
     let a = c.args in
     c.keep_widths.ensures
     ∙ rw (c.store_columns.ensures, c.store_settings.ensures, c.store_setup.ensures, c.clear.ensures)
-    (power_on_words a.setup a.m.now (omega (arith, c.whole-n.ensures.1)))
+    (power_on_words a.setup a.m.now (omega arith))

@@ -1,14 +1,16 @@
--- One more whole feed, and the rest.
-use Rattle.writer.proofs.Feeds.{begins, goes_on, and-rest}
+-- One more whole feed, and room for the rest.
+use Rattle.std.proofs.Common.{arith, length-take, length-drop}
+use Rattle.writer.proofs.Feeds.{whole_length, begins, goes_on}
 use Rattle.writer.proofs.output.put_feeds.Goals as goal
-use Rattle.std.proofs.Common.{arith}
 
-pub loop-i-init : goal.loop-i-init
-loop-i-init c = begins _ _ _
+pub loop-init : goal.loop-init
+loop-init c = begins _
 
-pub loop-i-preserved : goal.loop-i-preserved
-loop-i-preserved c = goes_on c.loop-i.invariant c.loop-i-test.true c.requires.1 (omega arith) c.put_feed-next.ensures
+pub put_feed-at-requires : goal.put_feed-at-requires
+put_feed-at-requires c = simp (length-take, length-drop) (omega (arith, whole_length c.loop.counter))
 
-pub returns : goal.returns
-returns c =
-    and-rest _ c.loop-i.invariant c.loop-i-test.false c.if-rest-eq0.false c.requires.0 c.requires.1 c.put_feed.ensures
+pub loop-preserved : goal.loop-preserved
+loop-preserved c = goes_on _ c.loop.invariant c.put_feed-at.ensures
+
+pub put_feed-requires : goal.put_feed-requires
+put_feed-requires c = simp (length-take, length-drop) (omega (arith, whole_length c.loop.counter))

@@ -1,10 +1,7 @@
 -- So many whole feeds are written.
-use Rattle.std.proofs.Common.{◌-◌}
-use Rattle.writer.proofs.Feeds.{Fed}
+use Rattle.writer.specs.Card.{whole_feeds}
+use Rattle.writer.specs.Laid.{Laid}
 use Rattle.writer.proofs.output.put_feeds.Given as goal
 
-abbrev pub invariant-loop-i : goal.invariant-loop-i
-invariant-loop-i l = Fed l.initial.out l.at l.whole l.i l.next l.out
-
-abbrev pub decreases-loop-i : goal.decreases-loop-i
-decreases-loop-i l = l.whole - l.i
+abbrev pub invariant-loop : goal.invariant-loop
+invariant-loop l = Laid l.fn.out (whole_feeds l.counter) l.at l.out
