@@ -142,8 +142,7 @@ fn take_image(
     }
 }
 
-// In image data, from any byte of a column on: the bytes that are placed from here, or else one. It stands apart, so that its loops have the
-// processor's registers to themselves.
+// In image data, from any byte of a column on: the bytes that are placed from here, or else one.
 fn take_images(
     byte: ColumnByte,
     columns: u16,
