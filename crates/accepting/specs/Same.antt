@@ -1,6 +1,6 @@
 -- Whether registers are those of the printer that they are read as: register by register, a group at a time. The place, the
 -- lengths and the stops are so whatever they are.
-use Rattle.std.specs.Prelude.{ℕ, ◌*◌, ◌%◌, Bool, ◌&&◌, List, eqb, get_or}
+use Rattle.std.specs.Prelude.{ℕ, ◌*◌, ◌%◌, Bool, true, false, ◌&&◌, List, Result, Ok, Err, eqb, get_or}
 use Rattle.printer.specs.Units.{per_inch_across, per_inch_down}
 use Rattle.printer.specs.Bounds.{settings_bounds, place_bounds, column_bounds, channel_bounds, waiting_bounds}
 use Rattle.printer.specs.Records.{style_of}
@@ -13,6 +13,7 @@ use Rattle.registers.specs.Register.{kind_at, command_at, argument_at, image_mod
 use Rattle.registers.specs.Layout.{flag, pitch_number}
 use Rattle.registers.specs.Groups.{is_set, resolution_of, pitch_of, place_in, width_in, settings_in, channels_in, stops_in}
 use Rattle.registers.specs.State.{pending_of}
+use Rattle.accepting.specs.declared.bounds.Refused.{Refused}
 
 abbrev pub is_flag : ℕ → Bool
 is_flag n = eqb n (flag (is_set n))
@@ -68,3 +69,8 @@ unfoldable pub accepts : List ℕ → Waiting → Bool
 accepts m w =
     same_registers m (pending_of w) && (holds (settings_bounds (settings_in m)) && (holds (place_bounds (settings_in m) (place_in m)) &&
     (holds (column_bounds (stops_in m)) && (holds (channel_bounds (channels_in m)) && holds (waiting_bounds (settings_in m) (stops_in m) w)))))
+
+-- what registers say is waited for, by whether they are those of a state within its bounds
+abbrev pub examined : Bool → Waiting → Result Waiting Refused
+examined true w = Ok w
+examined false w = Err (record { waiting = w })

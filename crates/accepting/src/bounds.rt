@@ -1,6 +1,5 @@
 // What holds of a state at every moment: the test behind the answer that a state is refused.
 ghost use Rattle.std.specs.Prelude.{◌≡◌, suc, ◌+◌, ◌-◌, ◌*◌, ◌<◌, leb};
-ghost use Rattle.std.specs.Bool.{then_some};
 ghost use Rattle.printer.specs.Bounds.{settings_bounds, place_bounds, last_stop, list_bounds, target_bounds, column_bounds, channels_below, channel_bounds, channel_of, gathering_bounds, listing_bounds, waiting_bounds};
 ghost use Rattle.printer.specs.Deciding.{most_stops};
 ghost use Rattle.printer.specs.Settings.{channel_stops};
@@ -9,7 +8,7 @@ ghost use Rattle.printer.specs.Widths.{image_bytes};
 ghost use Rattle.printer.specs.declared.commands.Target.{Target};
 ghost use Rattle.registers.specs.Groups.{place_in, settings_in, channels_in, stops_in};
 ghost use Rattle.registers.specs.State.{waiting_of, pending_in, accepted_in};
-ghost use Rattle.accepting.specs.Same.{accepts};
+ghost use Rattle.accepting.specs.Same.{accepts, examined};
 
 use crate::lists;
 use crate::same::same_registers;
@@ -191,10 +190,19 @@ fn accepts(m: &[u32; COUNT], waiting: Waiting) -> bool
         && waiting_within(m, waiting)
 }
 
-// What registers of a state within its bounds say is waited for; None of any others.
-pub fn examine(m: &[u32; COUNT]) -> Option<Waiting>
-    ensures { result ≡ then_some (accepted_in m.now) (waiting_of (pending_in m.now)) }
+// Registers that are not of a state within its bounds, by what they say is waited for.
+#[derive(Clone, Copy)]
+pub struct Refused {
+    pub waiting: Waiting,
+}
+
+// What registers say is waited for: Ok of a state within its bounds, Err of any others.
+pub fn examine(m: &[u32; COUNT]) -> Result<Waiting, Refused>
+    ensures { result ≡ examined (accepted_in m.now) (waiting_of (pending_in m.now)) }
 {
     let waiting = waiting_in(m);
-    accepts(m, waiting).then_some(waiting)
+    if !accepts(m, waiting) {
+        return Err(Refused { waiting });
+    }
+    Ok(waiting)
 }

@@ -4,9 +4,7 @@ use mathlib.Core.Path.{◌≡◌, refl, ◌∙◌}
 use mathlib.Core.Bool.{Bool, true, false}
 use mathlib.Core.List.{List}
 use lib.ListN.{length}
-use Rattle.std.specs.Bool.{then_some}
-use Rattle.std.specs.Prelude.{Some}
-use Rattle.std.proofs.lemmas.Option.{none-some}
+use Rattle.std.specs.Prelude.{Ok}
 use Rattle.printer.specs.Calls.{start_of, started_with}
 use Rattle.printer.specs.PowerOn.{power_on}
 use Rattle.printer.specs.Records.{encoded_all}
@@ -19,16 +17,17 @@ use Rattle.registers.specs.Register.{register_count}
 use Rattle.registers.specs.State.{pending_of, waiting_of, pending_in, registers_of, printer_in, accepted_in}
 use Rattle.registers.specs.Stores.{pended}
 use Rattle.registers.proofs.State.{pended-words, printer-typed, accepted-printer, accepted-held}
+use Rattle.accepting.specs.Same.{examined}
 use Rattle.interpreter.specs.declared.reading.Ran.{Ran}
 use Rattle.interpreter.specs.Calls.{run_in, left_in, ReadsRegisters, StartsRegisters}
 use Rattle.interpreter.specs.Taking.{Current, RunPromise}
 
 -- what is waited for is there of accepted registers, and of no others
-pub accepted_waits : (t : Bool) {w x : Waiting} → then_some t w ≡ Some x → (t ≡ true) × (x ≡ w)
+pub accepted_waits : (t : Bool) {w x : Waiting} → examined t w ≡ Ok x → (t ≡ true) × (x ≡ w)
 accepted_waits true e = (refl, cc)
-accepted_waits false e = absurd (none-some _ e)
+accepted_waits false e = cc
 
-pub refused_waits : (t : Bool) (w : Waiting) → ((x : Waiting) → then_some t w ≡ Some x → ⊥) → t ≡ false
+pub refused_waits : (t : Bool) (w : Waiting) → ((x : Waiting) → examined t w ≡ Ok x → ⊥) → t ≡ false
 refused_waits true w h = absurd (h w refl)
 refused_waits false w h = refl
 

@@ -112,7 +112,7 @@ impl ColumnByte {
     }
 
     // Where the place is after it, if the column fits.
-    fn end(self, across: Units, right: Units) -> Option<Units>
+    pub(crate) fn end(self, across: Units, right: Units) -> Option<Units>
         ensures { result ≡ column_end self.mode self.part across.0 right.0 }
     {
         let end = across.0 as u64 + image_step(self.mode).0 as u64;

@@ -59,7 +59,7 @@ pub fn read(m: &mut [u32; COUNT], input: &[u8], allowance: usize, out: &mut [u8]
     ensures { ReadsRegisters m.old input.now allowance out.old result
         m.new out.new }
 {
-    let Some(waiting) = examine(m) else {
+    let Ok(waiting) = examine(m) else {
         return Report {
             answer: Answer::StateRefused,
             read: 0,

@@ -21,7 +21,7 @@ use measures::widths::{image_bytes, image_step};
 use printer::commands::Waiting;
 use printer::records::Record;
 use printer::units::Units;
-use registers::{ADVANCE, ADVANCE_DOTS, COUNT, UPPER_PRINTS};
+use registers::{ACROSS, ADVANCE, ADVANCE_DOTS, COUNT, RIGHT, UPPER_PRINTS};
 
 // The room that a byte's records may take: it writes at most two.
 pub(crate) const ROOM: usize = 2 * Record::SIZE;
@@ -153,6 +153,10 @@ fn take_images(
     requires { Ready (Waiting.ImageData byte.mode byte.part columns) m.old input.now out.old }
     ensures { Turns (Waiting.ImageData byte.mode byte.part columns) m.old input.now out.old result m.new out.new }
 {
+    // Where a column does not fit, its bytes are passed over one by one, with no series made of them.
+    if byte.end(Units(m[ACROSS]), Units(m[RIGHT])).is_none() {
+        return take_image(byte, columns, m, input, out);
+    }
     let step = image_step(byte.mode);
     let image = Series {
         first: ColumnByte { part: 1, ..byte }.image_record(m, 0),

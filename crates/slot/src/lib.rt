@@ -1,7 +1,7 @@
 // What stands under a slot now: of the letters that survive on the present page, the last whose column lies from one column to another.
 #![tactic(auto)]
 
-ghost use Rattle.std.specs.Prelude.{◌≡◌, ◌+◌, ◌*◌, ◌≤◌, ◌↔◌, IsOk, IfOk, IfSome, length};
+ghost use Rattle.std.specs.Prelude.{◌≡◌, ◌+◌, ◌*◌, ◌≤◌, ◌↔◌, IsOk, IfOk, IfErr, IfSome, length};
 ghost use Rattle.printer.specs.Tools.{within};
 ghost use Rattle.printer.specs.Records.{record_size};
 ghost use Rattle.slot.specs.Slot.{seen_of, found, place_found, part_of, part_given, number_of, standing_in};
@@ -132,12 +132,26 @@ pub fn part_of(records: &[u8], columns: SlotColumns) -> Result<Part, LengthRefus
     })
 }
 
-// That record itself, as a part of the list.
-pub fn slot(records: &[u8], columns: SlotColumns) -> Result<&[u8], LengthRefused>
+// What a list that is refused is answered with: why, and the empty part at its beginning.
+#[derive(Clone, Copy, Debug, PartialEq, Eq)]
+pub struct Refused<'a> {
+    pub reason: LengthRefused,
+    pub part: &'a [u8],
+}
+
+// That record itself, as a part of the list; an empty part where none stands there, or where the list is refused.
+pub fn slot(records: &[u8], columns: SlotColumns) -> Result<&[u8], Refused<'_>>
     ensures answer { IsOk result ↔ IsOk (part_of columns.from columns.to records.now) }
     ensures result_value { IfOk result (λ r. r.now ≡ standing_in columns.from columns.to records.now) }
     ensures ref_ptr_value { IfOk result (λ r. (r.ref_ptr.0 ≡ records.entry.ref_ptr.0) × (r.ref_ptr.1 ≡ records.entry.ref_ptr.1 + (part_given (part_of columns.from columns.to records.now)).start)) }
+    ensures refused_value { IfErr result (λ e. e.part.now ≡ standing_in columns.from columns.to records.now) }
+    ensures refused_ref_ptr_value { IfErr result (λ e. (e.part.ref_ptr.0 ≡ records.entry.ref_ptr.0) × (e.part.ref_ptr.1 ≡ records.entry.ref_ptr.1 + (part_given (part_of columns.from columns.to records.now)).start)) }
 {
-    let part = part_of(records, columns)?;
-    Ok(&records[part.start..part.start + part.length])
+    match part_of(records, columns) {
+        Ok(part) => Ok(&records[part.start..part.start + part.length]),
+        Err(reason) => Err(Refused {
+            reason,
+            part: &records[..0],
+        }),
+    }
 }

@@ -1,5 +1,5 @@
 -- The bytes of a text, one after the other, and a piece after another.
-use Rattle.std.proofs.Common.{◌≡◌, ℕ, ◌+◌, ◌<◌, ◌≤◌, List, [], ◌∷◌, ◌++◌, length, get_or, drop, refl, add-one, drop_of_length-le, drop-cons, Err}
+use Rattle.std.proofs.Common.{◌≡◌, ℕ, ◌+◌, ◌<◌, ◌≤◌, List, [], ◌∷◌, ◌++◌, length, get_or, drop, refl, add-one, length-append, drop_of_length-le, drop-cons, Err}
 use Rattle.standing.specs.Text.{Lines, Reading, after_byte, after_text, FromInput}
 
 -- a piece, byte by byte
@@ -25,13 +25,14 @@ text_append a b v (x ∷ l) m = text_append a b (after_byte a b v x) l m
 -- bytes from outside
 
 module _ (a b : ℕ) where
-  pub from_none : (v : Reading) → FromInput a b v v
+  pub from_none : (v : Reading) → FromInput a b v v 0
   unfolding after_text
-  from_none v = record { input = []; same = refl }
+  from_none v = record { input = []; size = refl; same = refl }
 
-  pub from_more : {v w after : Reading} → FromInput a b v w → (l : List ℕ) → after ≡ after_text a b w l → FromInput a b v after
-  from_more {v} g l e =
+  pub from_more : {v w after : Reading} {n m : ℕ} → FromInput a b v w n → FromInput a b w after m → FromInput a b v after (n + m)
+  from_more {v} g h =
       record {
-        input = g.input ++ l;
-        same = cc (g.same, e, text_append a b v g.input l);
+        input = g.input ++ h.input;
+        size = let k = length-append g.input h.input in cc (g.size, h.size);
+        same = cc (g.same, h.same, text_append a b v g.input h.input);
       }

@@ -1,5 +1,5 @@
 -- Records as lines of text: what stands after them.
-use Rattle.std.specs.Prelude.{◌≡◌, ℕ, ◌+◌, ◌%◌, List, [], ◌∷◌, ◌++◌, length, ◌==◌, nat_lt, Option, Some, None, Result, Ok, Err}
+use Rattle.std.specs.Prelude.{◌≡◌, ℕ, ◌+◌, ◌%◌, List, [], ◌∷◌, ◌++◌, length, take, ◌==◌, nat_lt, Option, Some, None, Result, Ok, Err}
 use Rattle.printer.specs.Tools.{pick}
 use Rattle.hex_lines.specs.RecordLine.{digit_count, record_of}
 use Rattle.slot.specs.Slot.{seen_of}
@@ -62,13 +62,14 @@ text_ended a b (Err e) = Err e
 
 -- what the program's state says of the text
 abbrev pub lines_of : Text → Lines
-lines_of t = record { number = t.number; line = t.line.items; standing = t.standing }
+lines_of t = record { number = t.number; line = take t.count t.line; standing = t.standing }
 
 abbrev pub reading_of : Result Text BadLine → Reading
 reading_of (Ok t) = Ok (lines_of t)
 reading_of (Err b) = Err (lines_of b.text)
 
--- some bytes from outside lead from one to the other
-pub record FromInput (a b : ℕ) (v after : Reading) : Type 0 where
+-- so many bytes from outside lead from one to the other
+pub record FromInput (a b : ℕ) (v after : Reading) (read : ℕ) : Type 0 where
   pub input : List ℕ
+  pub size : length input ≡ read
   pub same : after ≡ after_text a b v input

@@ -4,20 +4,21 @@ ghost use Rattle.std.specs.Prelude.{◌≡◌};
 ghost use Rattle.standing.specs.Text.{first_line, line_ended, byte_read, after_byte, after_text, text_ended, lines_of, reading_of};
 
 use crate::Standing;
-use arrayvec::ArrayVec;
 use hex_lines::DIGITS;
 use slot::SlotColumns;
 
-// What has been read of a text: the number of the line begun, from 1, its bytes so far, and what stands after the lines before it.
-#[derive(Debug, Drop)]
+// What has been read of a text: the number of the line begun, from 1, its first `count` bytes, and what stands after the lines before it. (No
+// `ArrayVec`, which is not Copy.)
+#[derive(Clone, Copy, Debug)]
 pub struct Text {
     pub number: u64,
-    pub line: ArrayVec<u8, DIGITS>,
+    pub line: [u8; DIGITS],
+    pub count: usize,
     pub standing: Standing,
 }
 
 // The line begun is no record's: what had been read when it was found.
-#[derive(Debug, Drop)]
+#[derive(Clone, Copy, Debug)]
 pub struct BadLine {
     pub text: Text,
 }
@@ -29,7 +30,8 @@ impl Text {
     {
         Text {
             number: 1,
-            line: ArrayVec::new(),
+            line: [0; DIGITS],
+            count: 0,
             standing: Standing::new(),
         }
     }
@@ -39,11 +41,12 @@ impl Text {
     fn line_ended(self, columns: SlotColumns) -> Result<Text, BadLine>
         ensures { reading_of result ≡ line_ended columns.from columns.to (lines_of self) }
     {
-        match hex_lines::record_of(self.line.as_slice()) {
+        match hex_lines::record_of(&self.line[..self.count.min(DIGITS)]) {
             Some(bytes) => Ok(Text {
                 number: self.number.wrapping_add(1),
-                line: ArrayVec::new(),
+                count: 0,
                 standing: self.standing.after(bytes, columns),
+                ..self
             }),
             None => Err(BadLine { text: self }),
         }
@@ -54,10 +57,11 @@ impl Text {
     fn byte_read(mut self, b: u8) -> Result<Text, BadLine>
         ensures { reading_of result ≡ byte_read (lines_of self) b }
     {
-        if self.line.is_full() {
+        if DIGITS <= self.count {
             return Err(BadLine { text: self });
         }
-        self.line.push(b);
+        self.line[self.count] = b;
+        self.count += 1;
         Ok(self)
     }
 
@@ -89,7 +93,7 @@ impl Text {
     pub fn end(self, columns: SlotColumns) -> Result<Text, BadLine>
         ensures { reading_of result ≡ text_ended columns.from columns.to (Ok (lines_of self)) }
     {
-        if self.line.is_empty() {
+        if self.count == 0 {
             return Ok(self);
         }
         self.line_ended(columns)

@@ -1,8 +1,9 @@
 // A program: records as lines of hex on standard input; on standard output, at the end, the line of the record that stands under a slot.
 #![tactic(auto)]
 
-ghost use Rattle.std.specs.Prelude.{◌≤◌, length, IfOk};
-ghost use Rattle.under.specs.Told.{Told};
+ghost use Rattle.std.specs.Prelude.{◌≡◌, ◌≤◌, ◌<◌, ◌+◌, ◌^◌, length, IfOk, Ok};
+ghost use Rattle.standing.specs.Text.{lines_of, FromInput};
+ghost use Rattle.under.specs.Taking.{Taken, left, piece_size};
 
 use command_line::columns::{Columns, Words};
 use command_line::{BadUsage, asked};
@@ -43,28 +44,54 @@ fn get(rt: &HostRuntime, piece: &mut [u8]) -> io::Result<usize>
     rt.stdin().read(piece)
 }
 
-// Takes pieces, of whatever size they come in, until none comes or one has a line that is no record's. That they are what standard input has
-// next, and that it goes on until then, is left to these lines; nothing says that the input ends, and so the pieces are counted.
-#[tactic(auto, using(standing::proofs::Lines::from_none, standing::proofs::Lines::from_more))]
-fn read_all(rt: &HostRuntime, columns: SlotColumns) -> Result<Text, Failure>
-    ensures { Told columns.from columns.to result }
-{
-    let mut text = Text::new();
-    let mut piece = [0u8; PIECE];
-    for _ in 0..usize::MAX {
+// What is left after some input: the text read, and how many bytes there were.
+#[derive(Clone, Copy)]
+struct Progress {
+    text: Text,
+    read: usize,
+}
+
+// Both count the bytes of a line that is no record's too; the text of such a line is the failure's.
+impl Progress {
+    // Reads a piece, of whatever size it comes in, and returns how many bytes there are. That the piece is what standard input has next is left
+    // to these lines.
+    fn take_piece(&mut self, rt: &HostRuntime, columns: SlotColumns) -> Result<usize, Failure>
+        requires { self.old.read + piece_size < 2 ^ 64 }
+        ensures { Taken columns.from columns.to self.old result self.new }
+    {
+        let mut piece = [0u8; PIECE];
         let n = get(rt, &mut piece).map_err(Failure::Input)?;
-        if n == 0 {
-            break;
-        }
-        text = text.piece(&piece[..n], columns).map_err(Failure::Line)?;
+        self.read += n;
+        self.text = self
+            .text
+            .piece(&piece[..n], columns)
+            .map_err(Failure::Line)?;
+        Ok(n)
     }
-    Ok(text)
+
+    // Takes pieces until none comes, one has a line that is no record's, or reading fails. That it goes on until then is left to these lines; the
+    // bytes are counted, since nothing says that the input ends.
+    fn take_all(&mut self, rt: &HostRuntime, columns: SlotColumns) -> Result<(), Failure>
+        requires { self.old.read ≡ 0 }
+        ensures { FromInput columns.from columns.to (Ok (lines_of self.old.text)) (left self.new.text result) self.new.read }
+    {
+        while self.read < usize::MAX - PIECE {
+            if self.take_piece(rt, columns)? == 0 {
+                break;
+            }
+        }
+        Ok(())
+    }
 }
 
 // Writes the line of the record that stands there at the text's end, if one does.
 fn answer(rt: &HostRuntime, columns: SlotColumns) -> Result<(), Failure> {
-    let text = read_all(rt, columns)?;
-    let end = text.end(columns).map_err(Failure::Line)?;
+    let mut progress = Progress {
+        text: Text::new(),
+        read: 0,
+    };
+    progress.take_all(rt, columns)?;
+    let end = progress.text.end(columns).map_err(Failure::Line)?;
     if let Some(record) = end.standing.now() {
         let mut line = [0u8; LINE];
         let n = hex_lines::lines(&record, &mut line);

@@ -5,15 +5,15 @@ use Rattle.interpreter.proofs.read.Goals as goal
 
 pub run-ran-requires : goal.run-ran-requires
 run-ran-requires c =
-    let x = accepted_waits _ (sym c.examine.ensures ∙ c.in-Some.is) in
+    let x = accepted_waits _ (sym c.examine.ensures ∙ c.in-Ok.is) in
     record { printer = _; stale = _; current = begun c.told-m x.0 x.1 }
 
 pub returns : goal.returns
 returns c =
-    let x = accepted_waits _ (sym c.examine.ensures ∙ c.in-Some.is) in
+    let x = accepted_waits _ (sym c.examine.ensures ∙ c.in-Ok.is) in
     read_accepted x.0 (c.run-ran.ensures _ _ (begun c.told-m x.0 x.1))
     (rw c.pending_of.ensures at c.store_pending.ensures)
 
 pub returns-in_default : goal.returns-in_default
 returns-in_default c =
-    read_refused _ _ _ _ (refused_waits _ _ (λ w e. c.in_default.not-Some w (c.examine.ensures ∙ e)))
+    read_refused _ _ _ _ (refused_waits _ _ (λ w e. c.in_default.not-Ok w (c.examine.ensures ∙ e)))

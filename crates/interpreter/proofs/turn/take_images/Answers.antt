@@ -20,8 +20,8 @@ place_columns-placed-requires c =
     (on-paper k) c.most-most.ensures
 
 -- where none is placed, the byte that is left is taken from the same registers and output
-pub take_image-requires : goal.take_image-requires
-take_image-requires c =
+pub take_image-requires-then-placed-eq0 : goal.take_image-requires-then-placed-eq0
+take_image-requires-then-placed-eq0 c =
     let e = (placed-of c.most-most.ensures.some-input c.place_columns-placed.ensures).0 in
     let b : c.args.byte.part ≤ c.image_bytes.result = rw c.image_bytes.ensures (image-bounds c.requires.kept.current refl).1.1 in
     let same = not_moved c.args.m.now _ (none_done e.reached c.if-placed-eq0.true b) e.moved in
@@ -34,7 +34,7 @@ returns-then-placed-eq0 c =
     let b : c.args.byte.part ≤ c.image_bytes.result = rw c.image_bytes.ensures (image-bounds c.requires.kept.current refl).1.1 in
     let same = not_moved c.args.m.now _ (none_done e.reached c.if-placed-eq0.true b) e.moved in
     let kept = not_written c.if-placed-eq0.true e.records in
-    rw (same, kept) at c.take_image.ensures
+    rw (same, kept) at c.take_image-then-placed-eq0.ensures
 
 pub returns : goal.returns
 returns c =
