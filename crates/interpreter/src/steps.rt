@@ -1,10 +1,12 @@
 // One byte that is neither a letter nor of an image: a control byte, or a byte of an escape or a list.
-ghost use Rattle.std.specs.Prelude.{◌≡◌, List, ℕ, option_to_list, None};
+ghost use Rattle.std.specs.Prelude.{◌≡◌, [], ◌∷◌, List, ℕ, option_to_list, None};
 ghost use Rattle.printer.specs.Accepted.{Accepted};
 ghost use Rattle.printer.specs.Deciding.{decide};
 ghost use Rattle.printer.specs.Framing.{first_frame, second_of, one_command};
 ghost use Rattle.printer.specs.Steps.{frame_at};
 ghost use Rattle.printer.specs.declared.commands.Begun.{Begun};
+ghost use Rattle.printer.specs.declared.commands.Control.{Control};
+ghost use Rattle.printer.specs.declared.commands.First.{First};
 ghost use Rattle.printer.specs.declared.commands.Listing.{Listing};
 ghost use Rattle.printer.specs.declared.commands.Waiting.{Waiting};
 ghost use Rattle.printer.specs.declared.state.Printer.{Printer};
@@ -15,7 +17,7 @@ ghost use Rattle.interpreter.specs.Taking.{Current, stepping, StepPromise};
 
 use crate::controls::{control, shift};
 use crate::escapes::{argument, mode, switch};
-use crate::lines::feed;
+use crate::lines::{feed, line_feed};
 use crate::lists::{choose, end_list, list_byte, open_list};
 use crate::margins::margin;
 use crate::moves::move_by;
@@ -44,6 +46,15 @@ pub(crate) fn control_step(m: &mut [u32; COUNT], f: First, b: u8) -> Stepping
         First::Escape => waits(Waiting::SecondByte),
         First::Unlisted => whole(Some(passed_record(b, Reason::Unlisted))),
     }
+}
+
+// LF, which always writes a record.
+#[inline(always)]
+pub(crate) fn line_step(m: &mut [u32; COUNT]) -> Record
+    ensures { (p : Printer) (v : Pending) (b : ℕ) → Current p v Waiting.Nothing m.old → frame_at p b ≡ first_frame (First.Control Control.LineFeed) b
+        → StepPromise p v b Waiting.Nothing (result ∷ []) m.new }
+{
+    line_feed(m)
 }
 
 // A command is whole.

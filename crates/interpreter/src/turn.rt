@@ -14,11 +14,11 @@ ghost use Rattle.interpreter.specs.Taking.{Ready, Turns, after_byte};
 use crate::letters::{ColumnByte, letter, letter_record};
 use crate::output::{write_any, write_record};
 use crate::series::{Series, exact_step};
-use crate::steps::{Stepping, argument_step, control_step, list_step, second_step};
+use crate::steps::{Stepping, argument_step, control_step, line_step, list_step, second_step};
 use framing::{codes, prints, upper_letters};
 use measures::rounding::Exact;
 use measures::widths::{image_bytes, image_step};
-use printer::commands::Waiting;
+use printer::commands::{Control, First, Waiting};
 use printer::records::Record;
 use printer::units::Units;
 use registers::{ACROSS, ADVANCE, ADVANCE_DOTS, COUNT, RIGHT, UPPER_PRINTS};
@@ -77,7 +77,8 @@ fn take_letters(m: &mut [u32; COUNT], from: u8, input: &[u8], out: &mut [u8]) ->
     }
 }
 
-// Between commands: letters, or one byte that is no letter.
+// Between commands: letters, or one byte that is no letter. (Most lines end with LF: its record is written where it is made, and not where those of
+// all control bytes meet.)
 fn take_here(m: &mut [u32; COUNT], input: &[u8], out: &mut [u8]) -> Turned
     requires { Ready Waiting.Nothing m.old input.now out.old }
     ensures { Turns Waiting.Nothing m.old input.now out.old result m.new out.new }
@@ -88,7 +89,16 @@ fn take_here(m: &mut [u32; COUNT], input: &[u8], out: &mut [u8]) -> Turned
     if prints(from, b) {
         return take_letters(m, from, input, out);
     }
-    after_byte(control_step(m, framing::first(upper, b), b), out)
+    let f = framing::first(upper, b);
+    if let First::Control(Control::LineFeed) = f {
+        let line = line_step(m);
+        return Turned {
+            waiting: Waiting::Nothing,
+            read: 1,
+            written: write_record(out, 0, line),
+        };
+    }
+    after_byte(control_step(m, f, b), out)
 }
 
 // Whether letters and control bytes may follow: nothing is waited for, and there is input and room for a byte.

@@ -1,4 +1,4 @@
--- What reading promises: the text left is that of the lines of the bytes that came.
+-- What reading promises: as many bytes as came lead to the text that is left.
 use Rattle.std.specs.Prelude.{ℕ, ◌+◌, ◌≤◌, ◌≡◌, Result, Ok, Err, IfOk}
 use Rattle.standing.specs.Text.{Reading, lines_of, FromInput}
 use Rattle.standing.specs.declared.text.Text.{Text}

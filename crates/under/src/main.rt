@@ -51,7 +51,7 @@ struct Progress {
     read: usize,
 }
 
-// Both count the bytes of a line that is no record's too; the text of such a line is the failure's.
+// Both count all of a piece with a line that is no record's too; what had been read up to that line is the failure's.
 impl Progress {
     // Reads a piece, of whatever size it comes in, and returns how many bytes there are. That the piece is what standard input has next is left
     // to these lines.
