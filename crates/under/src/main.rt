@@ -4,6 +4,7 @@
 ghost use Rattle.std.specs.Prelude.{◌≡◌, ◌≤◌, ◌<◌, ◌+◌, ◌^◌, length, IfOk, Ok};
 ghost use Rattle.standing.specs.Text.{lines_of, FromInput};
 ghost use Rattle.under.specs.Taking.{Taken, left, piece_size};
+ghost use Rattle.under.specs.Told.{Told};
 
 use command_line::columns::{Columns, Words};
 use command_line::{BadUsage, asked};
@@ -84,14 +85,22 @@ impl Progress {
     }
 }
 
-// Writes the line of the record that stands there at the text's end, if one does.
-fn answer(rt: &HostRuntime, columns: SlotColumns) -> Result<(), Failure> {
+// Takes all of a text, from before any byte.
+fn read_all(rt: &HostRuntime, columns: SlotColumns) -> Result<Text, Failure>
+    ensures { Told columns.from columns.to result }
+{
     let mut progress = Progress {
         text: Text::new(),
         read: 0,
     };
     progress.take_all(rt, columns)?;
-    let end = progress.text.end(columns).map_err(Failure::Line)?;
+    Ok(progress.text)
+}
+
+// Writes the line of the record that stands there at the text's end, if one does.
+fn answer(rt: &HostRuntime, columns: SlotColumns) -> Result<(), Failure> {
+    let text = read_all(rt, columns)?;
+    let end = text.end(columns).map_err(Failure::Line)?;
     if let Some(record) = end.standing.now() {
         let mut line = [0u8; LINE];
         let n = hex_lines::lines(&record, &mut line);
